@@ -1,0 +1,201 @@
+//! A text as its UTF-16 units.
+ghost use Rattle.std.specs.Prelude.{◌≡◌, ◌↔◌, ◌-◌, ◌≤◌, ◌<◌, ◌==◌, [], ◌∷◌, ◌++◌, length, take, drop, slice_get, IsTrue, IfOk, IfErr, OnOk, OnErr, MatchOption, List, ℕ};
+ghost use Rattle.std.specs.Char.Escape.{encode_utf16};
+ghost use Rattle.std.specs.Str.{IsUtf8};
+ghost use Rattle.code_units.specs.Text.{units_of, utf8_of, IsRefusalOf, Utf8ComesBack};
+ghost use Rattle.code_units.specs.declared.text.TextError.TheVariants.{Memory};
+
+use crate::bytes::Bytes;
+use std::alloc::{AllocError, Global};
+use std::marker::Model;
+
+/// Text, seen as the list of its UTF-16 units. A surrogate may stand alone.
+#[derive(Debug, Drop)]
+pub struct Text {
+    units: Vec<u16>,
+    alloc: Global,
+}
+
+impl Model for Text {
+    ghost use Rattle.std.specs.Prelude.{List, ℕ};
+
+    ghost Value = { List ℕ };
+
+    ghost view = { λ text. text.units.items };
+}
+
+/// Why bytes gave no text.
+#[derive(Clone, Copy, Debug, PartialEq, Eq)]
+pub enum TextError {
+    /// The bytes are not UTF-8; their longest front that is UTF-8 has `at` bytes.
+    BadUtf8 { at: u64 },
+    /// Memory was wanting.
+    Memory,
+}
+
+impl From<AllocError> for TextError {
+    ghost from_gives = { λ _ e. e ≡ Memory };
+
+    fn from(_: AllocError) -> TextError {
+        TextError::Memory
+    }
+}
+
+impl Text {
+    /// The empty text.
+    pub fn new(alloc: Global) -> Text
+        ensures { result ≡ [] }
+    {
+        Text {
+            units: Vec::new(alloc),
+            alloc,
+        }
+    }
+
+    /// The text of these units.
+    pub fn from_slice(alloc: Global, units: &[u16]) -> Result<Text, AllocError>
+        ensures { IfOk result (λ text. text ≡ units.now) }
+    {
+        let units = Vec::from_slice(alloc, units)?;
+        Ok(Text { units, alloc })
+    }
+
+    /// The text of these UTF-8 bytes.
+    pub fn from_utf8(alloc: Global, bytes: &[u8]) -> Result<Text, TextError>
+        ensures ok { IfOk result (λ text. IsUtf8 bytes.now × (text ≡ units_of bytes.now)) }
+        ensures err { IfErr result (IsRefusalOf bytes.now) }
+    {
+        match str::from_utf8(bytes) {
+            Ok(text) => Ok(Text::from_str(alloc, text)?),
+            Err(e) => Err(TextError::BadUtf8 {
+                at: e.valid_up_to() as u64,
+            }),
+        }
+    }
+
+    /// The text of these characters.
+    pub fn from_str(alloc: Global, text: &str) -> Result<Text, AllocError>
+        ensures { IfOk result (λ made. made ≡ units_of text.now) }
+    {
+        let mut units = Vec::with_capacity(alloc, text.len())?;
+        for c in text.chars() {
+            push_char(&mut units, c)?;
+        }
+        Ok(Text { units, alloc })
+    }
+
+    /// The UTF-8 bytes of the text. A surrogate that has no partner becomes U+FFFD.
+    pub fn to_utf8(&self) -> Result<Bytes, AllocError>
+        ensures { IfOk result (λ bytes. bytes ≡ utf8_of self.now) }
+    {
+        let text = String::from_utf16_lossy(self.alloc, self.units.as_slice())?;
+        Ok(Bytes::from_vec(text.into_bytes()))
+    }
+
+    /// Whether this is the text of these characters. Takes no memory.
+    pub fn is(&self, text: &str) -> bool
+        ensures { IsTrue result ↔ (self.now ≡ units_of text.now) }
+    {
+        let mut rest = self.units.as_slice();
+        for c in text.chars() {
+            match after_char(rest, c) {
+                Some(more) => rest = more,
+                None => return false,
+            }
+        }
+        rest.is_empty()
+    }
+
+    /// How many units there are.
+    pub fn len(&self) -> u64
+        ensures { result ≡ length self.now }
+    {
+        self.units.len() as u64
+    }
+
+    /// Whether there is no unit.
+    pub fn is_empty(&self) -> bool
+        ensures { result ≡ (length self.now == 0) }
+    {
+        self.units.is_empty()
+    }
+
+    /// The unit at place `i`, counted from 0.
+    pub fn unit(&self, i: u64) -> u16
+        requires { i < length self.now }
+        ensures { slice_get self.now i ≡ Some result }
+    {
+        self.units[i as usize]
+    }
+
+    /// The units as a slice.
+    pub fn as_slice(&self) -> &[u16]
+        ensures { result.now ≡ self.now }
+    {
+        self.units.as_slice()
+    }
+
+    /// A copy of the units from place `from` up to, and without, place `to`.
+    pub fn slice(&self, from: u64, to: u64) -> Result<Text, AllocError>
+        requires ordered { from ≤ to }
+        requires within { to ≤ length self.now }
+        ensures { IfOk result (λ part. part ≡ take (to - from) (drop from self.now)) }
+    {
+        Text::from_slice(self.alloc, &self.units[from as usize..to as usize])
+    }
+
+    /// Adds a unit behind all others. Want of memory leaves the text as it was.
+    pub fn push(&mut self, unit: u16) -> Result<(), AllocError>
+        ensures ok { OnOk result (self.new ≡ self.old ++ unit ∷ []) }
+        ensures err { OnErr result (self.new ≡ self.old) }
+    {
+        self.units.push(unit)?;
+        Ok(())
+    }
+}
+
+// Adds the units of a character.
+fn push_char(units: &mut Vec<u16>, c: char) -> Result<(), AllocError>
+    ensures { OnOk result (units.new.items ≡ units.old.items ++ encode_utf16 c) }
+{
+    let code = c as u32;
+    if code < 0x1_0000 {
+        units.push(code as u16)?;
+    } else {
+        let over = code - 0x1_0000;
+        units.push((0xD800 + over / 0x400) as u16)?;
+        units.push((0xDC00 + over % 0x400) as u16)?;
+    }
+    Ok(())
+}
+
+// What follows the units of a character, where they stand in front.
+fn after_char(units: &[u16], c: char) -> Option<&[u16]>
+    ensures { MatchOption result ((more : List ℕ) → ¬ (units.now ≡ encode_utf16 c ++ more)) (λ more. units.now ≡ encode_utf16 c ++ more.now) }
+{
+    let code = c as u32;
+    if code < 0x1_0000 {
+        let (first, more) = units.split_first()?;
+        if u32::from(*first) == code {
+            Some(more)
+        } else {
+            None
+        }
+    } else {
+        let over = code - 0x1_0000;
+        let (first, more) = units.split_first()?;
+        let (second, more) = more.split_first()?;
+        if u32::from(*first) == 0xD800 + over / 0x400
+            && u32::from(*second) == 0xDC00 + over % 0x400
+        {
+            Some(more)
+        } else {
+            None
+        }
+    }
+}
+
+/// Reading UTF-8 and writing it again gives the same bytes.
+pub fn utf8_comes_back()
+    ensures { Utf8ComesBack }
+{}
