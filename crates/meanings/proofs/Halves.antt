@@ -4,7 +4,7 @@ use Rattle.meanings.specs.Runs.{End, Over, Going, Run, IsMeaning, Matches, SameR
 use Rattle.std.proofs.lemmas.Bool.{cases_lt}
 
 -- the front of a list
-abbrev Front : {O : Type 0} → List O → List O → Type 0
+abbrev pub Front : {O : Type 0} → List O → List O → Type 0
 Front {O} p xs = (z : List O) × (p ++ z ≡ xs)
 
 module _ {O : Type 0} where
@@ -23,11 +23,11 @@ module _ {O : Type 0} where
       let e' : p ++ z ≡ xs ++ t ∷ [] = cc in
       ⊎_elim (λ (f : Front p xs). inl (f.0, cc f.1)) (λ q. inr cc) (front_or p xs t z e')
 
-is_over : {E : Type 0} (x : End E) → x ≢ Going → (e : E) × (x ≡ Over e)
+pub is_over : {E : Type 0} (x : End E) → x ≢ Going → (e : E) × (x ≡ Over e)
 is_over (Over e) h = (e, refl)
 is_over Going h = absurd (h refl)
 
-going_or : {E : Type 0} (x : End E) → (x ≡ Going) ⊎ ((e : E) × (x ≡ Over e))
+pub going_or : {E : Type 0} (x : End E) → (x ≡ Going) ⊎ ((e : E) × (x ≡ Over e))
 going_or (Over e) = inr (e, refl)
 going_or Going = inl refl
 
@@ -40,7 +40,7 @@ module _ {O E : Type 0} where
       let i = stays_by F m d n e h in
       ap F z ∙ m.stays (d + n) e (ap (λ r. r.end) i ∙ h) ∙ i
 
-  stays_to : (F : ℕ → Run O E) → IsMeaning F → (n k : ℕ) (e : E) → n ≤ k → (F n).end ≡ Over e → F k ≡ F n
+  pub stays_to : (F : ℕ → Run O E) → IsMeaning F → (n k : ℕ) (e : E) → n ≤ k → (F n).end ≡ Over e → F k ≡ F n
   stays_to F m n k e le h = let z : k ≡ (k - n) + n = omega arith in ap F z ∙ stays_by F m (k - n) n e h
 
   -- what was printed is the front of what is printed later
@@ -52,8 +52,11 @@ module _ {O E : Type 0} where
       let at = ap (λ k. (F k).texts) z in
       ⊎_elim (λ same. (i.0, i.1 ∙ sym same ∙ at)) (λ more. (i.0 ++ more.0 ∷ [], sym (append_assoc (F n).texts i.0 (more.0 ∷ [])) ∙ ap (λ l. l ++ more.0 ∷ []) i.1 ∙ sym more.1 ∙ at)) (m.adds (d + n))
 
+  pub front_to : (F : ℕ → Run O E) → IsMeaning F → (n k : ℕ) → n ≤ k → Front (F n).texts (F k).texts
+  front_to F m n k le = let z : (k - n) + n ≡ k = omega arith in let f = front_by F m (k - n) n in (f.0, f.1 ∙ ap (λ j. (F j).texts) z)
+
   -- each front was printed at some time
-  printed : (F : ℕ → Run O E) → IsMeaning F → (n : ℕ) (p : List O) → Front p (F n).texts → (k : ℕ) × ((F k).texts ≡ p)
+  pub printed : (F : ℕ → Run O E) → IsMeaning F → (n : ℕ) (p : List O) → Front p (F n).texts → (k : ℕ) × ((F k).texts ≡ p)
   printed F m zero p f = (0, m.starts ∙ sym (no_back p f.0 (f.1 ∙ m.starts)))
   printed F m (suc n) p f =
       ⊎_elim
@@ -61,7 +64,7 @@ module _ {O E : Type 0} where
       (λ more. ⊎_elim (λ g. printed F m n p g) (λ q. (suc n, more.1 ∙ sym q)) (front_or p (F n).texts more.0 f.0 (f.1 ∙ more.1)))
       (m.adds n)
 
-  matches_same : (a b : Run O E) → a ≡ b → Matches a b
+  pub matches_same : (a b : Run O E) → a ≡ b → Matches a b
   matches_same a b h = (ap (λ r. r.texts) h, λ e o. sym (ap (λ r. r.end) h) ∙ o)
 
   pub half_enough : (F G : ℕ → Run O E) → IsMeaning F → IsMeaning G → Follows F G → SameRun F G
@@ -73,9 +76,8 @@ module _ {O E : Type 0} where
       -- G has not come further than where it follows F
       early : (m n : ℕ) → m ≤ fol.at n → (k : ℕ) × Matches (G m) (F k)
       early m n le =
-          let z : fol.at n - m + m ≡ fol.at n = omega arith in
-          let f = front_by G mg (fol.at n - m) m in
-          let f' : Front (G m).texts (F n).texts = (f.0, f.1 ∙ ap (λ k. (G k).texts) z ∙ sym (ap (λ r. r.texts) (fol.same n))) in
+          let f = front_to G mg m (fol.at n) le in
+          let f' : Front (G m).texts (F n).texts = (f.0, f.1 ∙ sym (ap (λ r. r.texts) (fol.same n))) in
           ⊎_elim
           (λ going. let k = printed F mf n (G m).texts f' in (k.0, (sym k.1, λ e o. let no : ⊥ = cc (going, o) in absurd no)))
           (λ over. (n, matches_same (G m) (F n) (sym (fol.same n ∙ stays_to G mg m (fol.at n) over.0 le over.1))))

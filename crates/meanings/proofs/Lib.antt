@@ -5,3 +5,4 @@ pub mod Loops
 pub mod Further
 pub mod Halves
 pub mod Follow
+pub mod Conclusions
