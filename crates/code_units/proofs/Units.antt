@@ -4,14 +4,14 @@ use Rattle.std.specs.Char.{IsScalar, encode_utf8}
 use Rattle.std.specs.Char.Escape.{encode_utf16}
 use Rattle.std.specs.Char.Utf16.{utf16_chars, lone_unit_char, surrogate_pair_char, utf16_lossy_chars}
 use Rattle.std.specs.Option.{unwrap_or}
-use Rattle.std.specs.Str.{IsUtf8, all_scalars, chars, encode_utf8_all}
+use Rattle.std.specs.Str.{IsUtf8, all_scalars}
 use Rattle.std.proofs.lemmas.Bool.{cases_lt}
 use Rattle.std.proofs.lemmas.List.{append-nil, append_cancel_left, nil_from_length}
-use Rattle.std.proofs.lemmas.Str.{chars-nil, chars_past_char, encodes-chars, scalars-chars, utf16_chars-nil, utf16_chars_lone, utf16_chars_pair}
+use Rattle.std.proofs.lemmas.Str.{chars-nil, chars_past_char, utf16_chars-nil, utf16_chars_lone, utf16_chars_pair}
 use Rattle.std.proofs.str.Utf16.{IsPair, one_unit, two_units, lone_unit_char_low, lone_unit_char_high}
 use Rattle.std.proofs.str.Laws.{both}
 use lib.Utf8.{scalar_cases}
-use Rattle.code_units.specs.Text.{units_of_chars, units_of, Utf8ComesBack}
+use Rattle.code_units.specs.Text.{units_of_chars, units_of}
 
 pub units_of-nil : (bytes : List ℕ) → length bytes ≡ 0 → units_of bytes ≡ []
 units_of-nil [] empty = ap units_of_chars chars-nil
@@ -50,9 +50,6 @@ chars_back [] all = ap (λ os. map (λ o. unwrap_or o 0xFFFD) os) utf16_chars-ni
 chars_back (c ∷ cs) all =
     let parts = both _ _ all in
     ap (λ os. map (λ o. unwrap_or o 0xFFFD) os) (char_back c (units_of_chars cs) parts.0) ∙ ap (λ ds. c ∷ ds) (chars_back cs parts.1)
-
-pub utf8_comes_back : Utf8ComesBack
-utf8_comes_back bytes utf8 = ap encode_utf8_all (chars_back (chars bytes) (scalars-chars bytes utf8)) ∙ encodes-chars bytes utf8
 
 -- one more character is read
 pub whole_more : (text made next before after : List ℕ) (c : ℕ) → IsUtf8 before → before ≡ encode_utf8 c ++ after

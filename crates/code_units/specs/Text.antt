@@ -1,5 +1,5 @@
 -- A text is its list of UTF-16 units.
-use Rattle.std.specs.Prelude.{◌≡◌, ℕ, List, [], ◌∷◌, ◌++◌}
+use Rattle.std.specs.Prelude.{ℕ, List, [], ◌∷◌, ◌++◌}
 use Rattle.std.specs.Char.Escape.{encode_utf16}
 use Rattle.std.specs.Char.Utf16.{utf16_lossy_chars}
 use Rattle.std.specs.Str.{chars, encode_utf8_all, IsUtf8, IsValidUpTo}
@@ -24,7 +24,3 @@ utf8_of units = encode_utf8_all (utf16_lossy_chars units)
 abbrev pub IsRefusalOf : List ℕ → TextError → Type 0
 IsRefusalOf bytes (BadUtf8 at) = ¬ (IsUtf8 bytes) × IsValidUpTo bytes at
 IsRefusalOf bytes Memory = Unit {0}
-
--- reading UTF-8 and writing it again gives the same bytes
-abbrev pub Utf8ComesBack : Type 0
-Utf8ComesBack = (bytes : List ℕ) → IsUtf8 bytes → utf8_of (units_of bytes) ≡ bytes

@@ -6,131 +6,78 @@ use crate::text::Text;
 use std::alloc::{AllocError, Global};
 use std::marker::Model;
 
-/// Texts, one after another; seen as the list of them.
+/// Items, one after another; seen as the list of them.
 #[derive(Debug, Drop)]
-pub struct Lines {
-    items: Vec<Text>,
+pub struct ListOf<T> {
+    items: Vec<T>,
 }
 
-impl Model for Lines {
-    ghost use Rattle.std.specs.Prelude.{List, ℕ};
+impl<T> Model for ListOf<T> {
+    ghost use Rattle.std.specs.Prelude.{List};
 
-    ghost Value = { List (List ℕ) };
+    ghost Value = { List T };
 
-    ghost view = { λ lines. lines.items.items };
+    ghost view = { λ list. list.items.items };
 }
 
-impl Lines {
-    /// No text.
-    pub fn new(alloc: Global) -> Lines
+impl<T> ListOf<T> {
+    /// No item.
+    pub fn new(alloc: Global) -> ListOf<T>
         ensures { result ≡ [] }
     {
-        Lines {
+        ListOf {
             items: Vec::new(alloc),
         }
     }
 
-    /// How many texts there are.
-    pub fn len(&self) -> u64
-        ensures { result ≡ length self.now }
-    {
-        self.items.len() as u64
-    }
-
-    /// Whether there is no text.
-    pub fn is_empty(&self) -> bool
-        ensures { result ≡ (length self.now == 0) }
-    {
-        self.items.is_empty()
-    }
-
-    /// The text at place `i`, counted from 0.
-    pub fn get(&self, i: u64) -> &Text
-        requires { i < length self.now }
-        ensures { slice_get self.now i ≡ Some result.now }
-    {
-        &self.items[i as usize]
-    }
-
-    /// The texts as a slice.
-    pub fn as_slice(&self) -> &[Text]
-        ensures { result.now ≡ self.now }
-    {
-        self.items.as_slice()
-    }
-
-    /// Adds a text behind all others.
-    pub fn push(&mut self, item: Text) -> Result<(), AllocError>
-        ensures ok { OnOk result (self.new ≡ self.old ++ item ∷ []) }
-        ensures err { OnErr result (self.new ≡ self.old) }
-    {
-        self.items.push(item)?;
-        Ok(())
-    }
-}
-
-/// Numbers below 2^32; seen as the list of them.
-#[derive(Debug, Drop)]
-pub struct NumberList {
-    items: Vec<u32>,
-}
-
-impl Model for NumberList {
-    ghost use Rattle.std.specs.Prelude.{List, ℕ};
-
-    ghost Value = { List ℕ };
-
-    ghost view = { λ numbers. numbers.items.items };
-}
-
-impl NumberList {
-    /// No number.
-    pub fn new(alloc: Global) -> NumberList
-        ensures { result ≡ [] }
-    {
-        NumberList {
-            items: Vec::new(alloc),
-        }
-    }
-
-    /// These numbers, without a copy.
-    pub fn from_vec(items: Vec<u32>) -> NumberList
+    /// These items, without a copy.
+    pub fn from_vec(items: Vec<T>) -> ListOf<T>
         ensures { result ≡ items.items }
     {
-        NumberList { items }
+        ListOf { items }
     }
 
-    /// How many numbers there are.
+    /// The items as a vector, without a copy.
+    pub fn into_vec(self) -> Vec<T>
+        ensures { result.items ≡ self }
+    {
+        let ListOf { items } = self;
+        items
+    }
+
+    /// How many items there are.
     pub fn len(&self) -> u64
         ensures { result ≡ length self.now }
     {
         self.items.len() as u64
     }
 
-    /// Whether there is no number.
+    /// Whether there is no item.
     pub fn is_empty(&self) -> bool
         ensures { result ≡ (length self.now == 0) }
     {
         self.items.is_empty()
     }
 
-    /// The number at place `i`, counted from 0.
-    pub fn get(&self, i: u64) -> &u32
+    /// The item at place `i`, counted from 0.
+    pub fn get(&self, i: u64) -> &T
         requires { i < length self.now }
         ensures { slice_get self.now i ≡ Some result.now }
     {
         &self.items[i as usize]
     }
 
-    /// The numbers as a slice.
-    pub fn as_slice(&self) -> &[u32]
+    /// The items as a slice.
+    pub fn as_slice(&self) -> &[T]
         ensures { result.now ≡ self.now }
     {
         self.items.as_slice()
     }
+}
 
-    /// Adds a number behind all others.
-    pub fn push(&mut self, item: u32) -> Result<(), AllocError>
+impl<T: Drop> ListOf<T> {
+    /// Adds an item behind all others.
+    pub fn push(&mut self, item: T) -> Result<(), AllocError>
         ensures ok { OnOk result (self.new ≡ self.old ++ item ∷ []) }
         ensures err { OnErr result (self.new ≡ self.old) }
     {
@@ -146,84 +93,14 @@ pub struct NamedFile {
     pub bytes: Bytes,
 }
 
-/// Named files; seen as the list of them.
-#[derive(Debug, Drop)]
-pub struct Files {
-    items: Vec<NamedFile>,
-}
+/// Texts, one after another.
+pub type Lines = ListOf<Text>;
 
-impl Model for Files {
-    ghost use Rattle.std.specs.Prelude.{List};
-    ghost use Rattle.code_units.specs.declared.lists.NamedFile.{NamedFile};
+/// Numbers below 2^32.
+pub type NumberList = ListOf<u32>;
 
-    ghost Value = { List NamedFile };
-
-    ghost view = { λ files. files.items.items };
-}
-
-impl Files {
-    /// No file.
-    pub fn new(alloc: Global) -> Files
-        ensures { result ≡ [] }
-    {
-        Files {
-            items: Vec::new(alloc),
-        }
-    }
-
-    /// These files, without a copy.
-    pub fn from_vec(items: Vec<NamedFile>) -> Files
-        ensures { result ≡ items.items }
-    {
-        Files { items }
-    }
-
-    /// The files as a vector, without a copy.
-    pub fn into_vec(self) -> Vec<NamedFile>
-        ensures { result.items ≡ self }
-    {
-        let Files { items } = self;
-        items
-    }
-
-    /// How many files there are.
-    pub fn len(&self) -> u64
-        ensures { result ≡ length self.now }
-    {
-        self.items.len() as u64
-    }
-
-    /// Whether there is no file.
-    pub fn is_empty(&self) -> bool
-        ensures { result ≡ (length self.now == 0) }
-    {
-        self.items.is_empty()
-    }
-
-    /// The file at place `i`, counted from 0.
-    pub fn get(&self, i: u64) -> &NamedFile
-        requires { i < length self.now }
-        ensures { slice_get self.now i ≡ Some result.now }
-    {
-        &self.items[i as usize]
-    }
-
-    /// The files as a slice.
-    pub fn as_slice(&self) -> &[NamedFile]
-        ensures { result.now ≡ self.now }
-    {
-        self.items.as_slice()
-    }
-
-    /// Adds a file behind all others.
-    pub fn push(&mut self, item: NamedFile) -> Result<(), AllocError>
-        ensures ok { OnOk result (self.new ≡ self.old ++ item ∷ []) }
-        ensures err { OnErr result (self.new ≡ self.old) }
-    {
-        self.items.push(item)?;
-        Ok(())
-    }
-}
+/// Named files.
+pub type Files = ListOf<NamedFile>;
 
 /// The words of a command line; seen as the list of them, each as its UTF-8 bytes.
 #[derive(Debug, Drop)]

@@ -2,7 +2,7 @@
 ghost use Rattle.std.specs.Prelude.{◌≡◌, ◌↔◌, ◌-◌, ◌≤◌, ◌<◌, ◌==◌, [], ◌∷◌, ◌++◌, length, take, drop, slice_get, IsTrue, IfOk, IfErr, OnOk, OnErr, MatchOption, List, ℕ};
 ghost use Rattle.std.specs.Char.Escape.{encode_utf16};
 ghost use Rattle.std.specs.Str.{IsUtf8};
-ghost use Rattle.code_units.specs.Text.{units_of, utf8_of, IsRefusalOf, Utf8ComesBack};
+ghost use Rattle.code_units.specs.Text.{units_of, utf8_of, IsRefusalOf};
 ghost use Rattle.code_units.specs.declared.text.TextError.TheVariants.{Memory};
 
 use crate::bytes::Bytes;
@@ -144,6 +144,21 @@ impl Text {
         Text::from_slice(self.alloc, &self.units[from as usize..to as usize])
     }
 
+    /// A copy of the text.
+    pub fn copy(&self) -> Result<Text, AllocError>
+        ensures { IfOk result (λ same. same ≡ self.now) }
+    {
+        Text::from_slice(self.alloc, self.units.as_slice())
+    }
+
+    /// Adds `units` behind all others. Want of memory leaves the text as it was.
+    pub fn extend(&mut self, units: &[u16]) -> Result<(), AllocError>
+        ensures ok { OnOk result (self.new ≡ self.old ++ units.now) }
+        ensures err { OnErr result (self.new ≡ self.old) }
+    {
+        self.units.extend_from_slice(units)
+    }
+
     /// Adds a unit behind all others. Want of memory leaves the text as it was.
     pub fn push(&mut self, unit: u16) -> Result<(), AllocError>
         ensures ok { OnOk result (self.new ≡ self.old ++ unit ∷ []) }
@@ -194,8 +209,3 @@ fn after_char(units: &[u16], c: char) -> Option<&[u16]>
         }
     }
 }
-
-/// Reading UTF-8 and writing it again gives the same bytes.
-pub fn utf8_comes_back()
-    ensures { Utf8ComesBack }
-{}
