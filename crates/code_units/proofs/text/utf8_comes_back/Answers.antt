@@ -1,5 +1,0 @@
-use Rattle.code_units.proofs.Units.{utf8_comes_back}
-use Rattle.code_units.proofs.text.utf8_comes_back.Goals as goal
-
-pub returns : goal.returns
-returns c = utf8_comes_back
