@@ -34,3 +34,10 @@ exact_program bytes ts scan (Some q) parse =
 
 pub found_program : (bytes : List ℕ) (o : Option (List Sum)) (p q : List Sum) → MatchOption o ((p : List Sum) → IsProgram bytes p → ⊥) (IsProgram bytes) → o ≡ Some p → q ≡ p → IsProgram bytes q
 found_program bytes o p q found is same = subst (IsProgram bytes) (sym same) (subst (λ o. MatchOption o ((p : List Sum) → IsProgram bytes p → ⊥) (IsProgram bytes)) is found)
+
+pub same_program : (bytes : List ℕ) (p q : List Sum) → IsProgram bytes p → IsProgram bytes q → p ≡ q
+same_program bytes p q is also =
+    let both : Some (tokens_of p) ≡ Some (tokens_of q) = sym (spelled_is_scanned (tokens_of p) bytes is.spelled) ∙ spelled_is_scanned (tokens_of q) bytes also.spelled in
+    let same : tokens_of p ≡ tokens_of q = cc in
+    let found : Some p ≡ Some q = sym (program_is_parsed p) ∙ ap parsed same ∙ program_is_parsed q in
+    cc

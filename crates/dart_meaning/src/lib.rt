@@ -6,7 +6,9 @@
 
 pub mod program;
 pub mod run;
+#[cfg(test)]
+mod tests;
 pub mod tokens;
 
-pub use program::{Program, Sum, read_program};
-pub use run::{runs_are_of_a_meaning, run_first};
+pub use program::{Program, Sum, a_file_has_one_program, read_program};
+pub use run::{run_first, runs_are_of_a_meaning};

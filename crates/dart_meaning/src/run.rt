@@ -60,12 +60,7 @@ fn decimal_text(alloc: Global, number: u64) -> Result<Text, AllocError>
 }
 
 // One step for the statement, one for its expression, and one for the call of print.
-fn statement(
-    alloc: Global,
-    sum: &Sum,
-    steps: u64,
-    output: &mut Lines,
-) -> Result<Turn, AllocError>
+fn statement(alloc: Global, sum: &Sum, steps: u64, output: &mut Lines) -> Result<Turn, AllocError>
     ensures { IfOk result (λ turn. means First (sub (Statement sum.now) tt fin) steps output.old ≡ turned output.new turn) }
 {
     if steps < 2 {
