@@ -1,5 +1,5 @@
 -- The laws between UTF-8 bytes and units.
-use Rattle.std.proofs.Common.{◌≡◌, ◌⊎◌, ℕ, suc, ◌+◌, ◌-◌, ◌*◌, ◌^◌, ◌<◌, ◌≤◌, true, false, not, List, [], ◌∷◌, ◌++◌, map, Option, Some, None, refl, sym, ap, ◌∙◌, subst, inl, inr, le-ltb, le-leb, lt-ltb, ⊎_elim, arith, append_assoc}
+use Rattle.std.proofs.Common.{IsUtf8, get_or, ◌≡◌, ◌↔◌, Fits, w16, ◌⊎◌, ℕ, suc, ◌+◌, ◌-◌, ◌*◌, ◌^◌, ◌<◌, ◌≤◌, true, false, not, List, [], ◌∷◌, ◌++◌, map, Option, Some, None, refl, sym, ap, ◌∙◌, subst, inl, inr, le-ltb, le-leb, lt-ltb, ⊎_elim, arith, append_assoc}
 use Rattle.std.specs.Char.{IsScalar}
 use Rattle.std.specs.Char.Escape.{encode_utf16}
 use Rattle.std.specs.Char.Utf16.{utf16_chars, utf16_lossy_chars, has_unpaired_surrogate, lone_unit_char, surrogate_pair_char}
@@ -11,9 +11,9 @@ use Rattle.std.proofs.lemmas.Str.{chars-encodes, chars-append, chars-IsAscii, en
 use Rattle.std.proofs.str.Utf16.{IsPair, one_unit, pair_units, lone_unit_char_low, lone_unit_char_high, lone_unit_char_surrogate}
 use Rattle.std.proofs.str.Laws.{both}
 use Rattle.std.specs.Cmp.Derive.{both_true}
-use Rattle.std.proofs.lemmas.List.Elements.{All-nil, All-head, All-tail}
+use Rattle.std.proofs.lemmas.List.Elements.{All-nil, All-head, All-tail, All-from_get_or}
 use lib.Utf8.{low_scalar}
-use Rattle.code_units.specs.Text.{units_of_chars, utf8_of}
+use Rattle.code_units.specs.Text.{units_of_chars, utf8_of, units_of}
 use Rattle.code_units.specs.TextLaws.{Utf8ComesBack, PairedUnitsComeBack, WritesUtf8, ReadsPairs, UnitsTellApart, UnitsJoin, AsciiIsItsUnits}
 use Rattle.code_units.proofs.Units.{char_back, chars_back}
 
@@ -156,3 +156,11 @@ units_back (u ∷ v ∷ us) all paired =
 pub paired_units_come_back : PairedUnitsComeBack
 paired_units_come_back units all paired =
     ap units_of_chars (chars-encodes (utf16_lossy_chars units) (lossy_scalars units all)) ∙ units_back units all paired
+
+-- Units are those of a text exactly where none of them is a lone surrogate and their UTF-8 is the text.
+pub same_units_same_utf8 : (units text : List ℕ) → ((i : ℕ) → Fits w16 (get_or units i 0)) → IsUtf8 text
+    → (units ≡ units_of text) ↔ ((has_unpaired_surrogate units ≡ false) × (utf8_of units ≡ text))
+same_units_same_utf8 units text fit utf8 = (
+  λ same. (ap has_unpaired_surrogate same ∙ reads_pairs text utf8, ap utf8_of same ∙ utf8_comes_back text utf8),
+  λ spelled. sym (paired_units_come_back units (All-from_get_or IsUnit units 0 (λ i lt. let fits = fit i in omega (arith, fits))) spelled.0) ∙ ap units_of spelled.1,
+)

@@ -1,6 +1,7 @@
 //! A text as its UTF-16 units.
-ghost use Rattle.std.specs.Prelude.{◌≡◌, ◌↔◌, ◌-◌, ◌≤◌, ◌<◌, ◌==◌, [], ◌∷◌, ◌++◌, length, take, drop, slice_get, IsTrue, IfOk, IfErr, OnOk, OnErr, MatchOption, List, ℕ};
+ghost use Rattle.std.specs.Prelude.{◌≡◌, ◌↔◌, ◌+◌, ◌-◌, ◌≤◌, ◌<◌, ◌==◌, [], ◌∷◌, ◌++◌, length, take, drop, slice_get, IsTrue, false, vec_len, vec_capacity, IsOk, IfOk, IfErr, OnOk, OnErr, MatchOption, List, ℕ};
 ghost use Rattle.std.specs.Char.Escape.{encode_utf16};
+ghost use Rattle.std.specs.Char.Utf16.{has_unpaired_surrogate};
 ghost use Rattle.std.specs.Str.{IsUtf8};
 ghost use Rattle.code_units.specs.Text.{units_of, utf8_of, IsRefusalOf};
 ghost use Rattle.code_units.specs.declared.text.TextError.TheVariants.{Memory};
@@ -60,6 +61,21 @@ impl Text {
         Ok(Text { units, alloc })
     }
 
+    /// The text of these units, without a copy.
+    pub fn from_vec(alloc: Global, units: Vec<u16>) -> Text
+        ensures { result ≡ units.items }
+    {
+        Text { units, alloc }
+    }
+
+    /// The units as a vector, without a copy.
+    pub fn into_vec(self) -> Vec<u16>
+        ensures { result.items ≡ self }
+    {
+        let Text { units, .. } = self;
+        units
+    }
+
     /// The text of these UTF-8 bytes.
     pub fn from_utf8(alloc: Global, bytes: &[u8]) -> Result<Text, TextError>
         ensures ok { IfOk result (λ text. IsUtf8 bytes.now × (text ≡ units_of bytes.now)) }
@@ -77,10 +93,8 @@ impl Text {
     pub fn from_str(alloc: Global, text: &str) -> Result<Text, AllocError>
         ensures { IfOk result (λ made. made ≡ units_of text.now) }
     {
-        let mut units = Vec::with_capacity(alloc, text.len())?;
-        for c in text.chars() {
-            push_char(&mut units, c)?;
-        }
+        let mut units = Vec::new(alloc);
+        push_units(&mut units, text)?;
         Ok(Text { units, alloc })
     }
 
@@ -92,18 +106,13 @@ impl Text {
         Ok(Bytes::from_vec(text.into_bytes()))
     }
 
-    /// Whether this is the text of these characters. Takes no memory.
+    /// Whether this is the text of these characters: it has no lone surrogate, and these are its UTF-8 bytes. Takes
+    /// no memory.
     pub fn is(&self, text: &str) -> bool
-        ensures { IsTrue result ↔ (self.now ≡ units_of text.now) }
+        ensures units { IsTrue result ↔ (self.now ≡ units_of text.now) }
+        ensures utf8 { IsTrue result ↔ ((has_unpaired_surrogate self.now ≡ false) × (utf8_of self.now ≡ text.now)) }
     {
-        let mut rest = self.units.as_slice();
-        for c in text.chars() {
-            match after_char(rest, c) {
-                Some(more) => rest = more,
-                None => return false,
-            }
-        }
-        rest.is_empty()
+        is_text(self.units.as_slice(), text)
     }
 
     /// How many units there are.
@@ -151,6 +160,14 @@ impl Text {
         Text::from_slice(self.alloc, self.units.as_slice())
     }
 
+    /// Adds the units of these characters behind all others. Want of memory leaves the text as it was.
+    pub fn push_str(&mut self, text: &str) -> Result<(), AllocError>
+        ensures ok { OnOk result (self.new ≡ self.old ++ units_of text.now) }
+        ensures err { OnErr result (self.new ≡ self.old) }
+    {
+        push_units(&mut self.units, text)
+    }
+
     /// Adds `units` behind all others. Want of memory leaves the text as it was.
     pub fn extend(&mut self, units: &[u16]) -> Result<(), AllocError>
         ensures ok { OnOk result (self.new ≡ self.old ++ units.now) }
@@ -169,19 +186,77 @@ impl Text {
     }
 }
 
-// Adds the units of a character.
-fn push_char(units: &mut Vec<u16>, c: char) -> Result<(), AllocError>
-    ensures { OnOk result (units.new.items ≡ units.old.items ++ encode_utf16 c) }
+/// Adds the units of these characters behind all others. Want of memory leaves the units as they were, and comes
+/// only where there was no room for as many units as the text has bytes.
+pub fn push_units(units: &mut Vec<u16>, text: &str) -> Result<(), AllocError>
+    ensures ok { OnOk result (units.new.items ≡ units.old.items ++ units_of text.now) }
+    ensures err { OnErr result (units.new.items ≡ units.old.items) }
+    ensures capacity { vec_capacity units.old ≤ vec_capacity units.new }
+    ensures succeeds { vec_len units.old + length text.now ≤ vec_capacity units.old → IsOk result }
+{
+    units.reserve(text.len())?;
+    push_within(units, text);
+    Ok(())
+}
+
+// The same where there is room.
+fn push_within(units: &mut Vec<u16>, text: &str)
+    requires { vec_len units.old + length text.now ≤ vec_capacity units.old }
+    ensures items { units.new.items ≡ units.old.items ++ units_of text.now }
+    ensures capacity { vec_capacity units.old ≤ vec_capacity units.new }
+{
+    for c in text.chars() {
+        push_char(units, c);
+    }
+}
+
+// Adds the units of a character where there is room for them.
+fn push_char(units: &mut Vec<u16>, c: char)
+    requires { vec_len units.old + length (encode_utf16 c) ≤ vec_capacity units.old }
+    ensures items { units.new.items ≡ units.old.items ++ encode_utf16 c }
+    ensures len { vec_len units.new ≡ vec_len units.old + length (encode_utf16 c) }
+    ensures capacity { vec_capacity units.old ≤ vec_capacity units.new }
 {
     let code = c as u32;
     if code < 0x1_0000 {
-        units.push(code as u16)?;
+        push_unit(units, code as u16);
     } else {
         let over = code - 0x1_0000;
-        units.push((0xD800 + over / 0x400) as u16)?;
-        units.push((0xDC00 + over % 0x400) as u16)?;
+        push_unit(units, (0xD800 + over / 0x400) as u16);
+        push_unit(units, (0xDC00 + over % 0x400) as u16);
     }
-    Ok(())
+}
+
+// Adds a unit where there is room for it.
+fn push_unit(units: &mut Vec<u16>, unit: u16)
+    requires { vec_len units.old < vec_capacity units.old }
+    ensures items { units.new.items ≡ units.old.items ++ unit ∷ [] }
+    ensures len { vec_len units.new ≡ vec_len units.old + 1 }
+    ensures capacity { vec_capacity units.old ≤ vec_capacity units.new }
+{
+    let _ = units.push(unit);
+}
+
+// Whether these are the units of the text, which then is their UTF-8.
+fn is_text(units: &[u16], text: &str) -> bool
+    ensures units { IsTrue result ↔ (units.now ≡ units_of text.now) }
+    ensures utf8 { IsTrue result ↔ ((has_unpaired_surrogate units.now ≡ false) × (utf8_of units.now ≡ text.now)) }
+{
+    spell(units, text)
+}
+
+// Whether these are the units of the text.
+fn spell(units: &[u16], text: &str) -> bool
+    ensures { IsTrue result ↔ (units.now ≡ units_of text.now) }
+{
+    let mut rest = units;
+    for c in text.chars() {
+        match after_char(rest, c) {
+            Some(more) => rest = more,
+            None => return false,
+        }
+    }
+    rest.is_empty()
 }
 
 // What follows the units of a character, where they stand in front.

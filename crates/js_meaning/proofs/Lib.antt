@@ -1,0 +1,7 @@
+pub mod Fronts
+pub mod Numbers
+pub mod Taken
+pub mod Statements
+pub mod Exact
+pub mod Canonical
+pub mod Running

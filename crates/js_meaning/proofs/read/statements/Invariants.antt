@@ -1,0 +1,9 @@
+use Rattle.std.proofs.Common.{◌≡◌, ◌-◌, ◌≤◌, []}
+use Rattle.js_meaning.specs.Reader as spec
+use Rattle.js_meaning.proofs.read.statements.Given as goal
+
+abbrev pub invariant-loop-turn : goal.invariant-loop-turn
+invariant-loop-turn l = record {
+  same : spec.statements l.size l.size 0 [] l.fn.bytes ≡ spec.statements (l.size - l._turn) l.size l.lets l.file l.rest;
+  few : l.lets ≤ l._turn;
+}

@@ -1,0 +1,61 @@
+use Rattle.std.proofs.Common.{◌≡◌, ◌<◌, ◌≤◌, ◌+◌, ◌-◌, [], drop, get_or, length, sym, ap, ◌∙◌, subst, arith}
+use Rattle.code_units.specs.declared.ends.RunEnd.{RunEnd}
+use Rattle.code_units.specs.declared.ends.End.TheVariants as ends
+use Rattle.meanings.specs.Act.{ResOf, Fin, Spent, Cut, Left, Stuck, means}
+use Rattle.meanings.specs.Ends.{run_end_of}
+use Rattle.js_meaning.specs.declared.tree.Operand.TheVariants.{Digits}
+use Rattle.js_meaning.specs.declared.tree.JsStmt.{JsStmt}
+use Rattle.js_meaning.specs.declared.tree.JsStmt.TheVariants.{Let}
+use Rattle.js_meaning.specs.Meaning.{Js, Normal, Returned, body}
+use Rattle.js_meaning.specs.Runner.{turned}
+use Rattle.js_meaning.proofs.Running.{alone, run_few, run_stops, run_returns, return_spent, return_done, body_next}
+use Rattle.js_meaning.proofs.run.run_file.Goals as goal
+use Rattle.js_meaning.proofs.run.run_file.Goals.{then-left-eq0, else-left-eq0}
+
+pub returns-then-steps-lt2 : goal.returns-then-steps-lt2
+returns-then-steps-lt2 c =
+    let none : RunEnd = record { output = c.new-output.result; end = ends.Spent } in
+    let it : none ≡ record { output = []; end = ends.Spent } = ap (λ o. record { output = o; end = ends.Spent }) c.new-output.ensures in
+    it ∙ sym (ap run_end_of (run_few c.args.file c.args.statements.now c.args.steps c.if-steps-lt2.true))
+
+pub returns-in-Spends : goal.returns-in-Spends
+returns-in-Spends c =
+    let enough : 2 ≤ c.args.steps = omega arith in
+    let lt : c.loop-stmt.stmt-index < length c.args.statements.now = c.loop-stmt-test.true in
+    sym (ap run_end_of (run_stops c.args.file c.args.statements.now c.args.steps c.loop-stmt.output c.loop-stmt.values c.loop-stmt.stmt-index c.loop-stmt.left (Let 0 (Digits 0) (Digits 0)) (Spent c.statement.new.output) enough lt c.loop-stmt.invariant
+    (c.in_ok-next.ensures c.args.file ∙ ap (turned c.args.file c.statement.new.values c.statement.new.output) c.in-Spends.is)))
+
+pub returns-in-Leaves : goal.returns-in-Leaves
+returns-in-Leaves c =
+    let enough : 2 ≤ c.args.steps = omega arith in
+    let lt : c.loop-stmt.stmt-index < length c.args.statements.now = c.loop-stmt-test.true in
+    sym (ap run_end_of (run_stops c.args.file c.args.statements.now c.args.steps c.loop-stmt.output c.loop-stmt.values c.loop-stmt.stmt-index c.loop-stmt.left (Let 0 (Digits 0) (Digits 0)) (Cut Left c.statement.new.output) enough lt c.loop-stmt.invariant
+    (c.in_ok-next.ensures c.args.file ∙ ap (turned c.args.file c.statement.new.values c.statement.new.output) c.in-Leaves.is)))
+
+pub returns-in-Sticks : goal.returns-in-Sticks
+returns-in-Sticks c =
+    let enough : 2 ≤ c.args.steps = omega arith in
+    let lt : c.loop-stmt.stmt-index < length c.args.statements.now = c.loop-stmt-test.true in
+    sym (ap run_end_of (run_stops c.args.file c.args.statements.now c.args.steps c.loop-stmt.output c.loop-stmt.values c.loop-stmt.stmt-index c.loop-stmt.left (Let 0 (Digits 0) (Digits 0)) (Cut (Stuck c.args.file c.in-Sticks.at) c.statement.new.output) enough lt c.loop-stmt.invariant
+    (c.in_ok-next.ensures c.args.file ∙ ap (turned c.args.file c.statement.new.values c.statement.new.output) c.in-Sticks.is)))
+
+pub loop-stmt-preserved : goal.loop-stmt-preserved
+loop-stmt-preserved c =
+    let lt : c.loop-stmt.stmt-index < length c.args.statements.now = c.loop-stmt-test.true in
+    sym (body_next c.args.file c.args.statements.now c.loop-stmt.stmt-index (Let 0 (Digits 0) (Digits 0)) c.loop-stmt.values c.loop-stmt.left c.loop-stmt.output (Fin Normal c.statement.new.values c.in-Next.next c.statement.new.output) lt
+    (c.in_ok-next.ensures c.args.file ∙ ap (turned c.args.file c.statement.new.values c.statement.new.output) c.in-Next.is))
+    ∙ c.loop-stmt.invariant
+
+pub returns : goal.returns
+returns c =
+    let enough : 2 ≤ c.args.steps = omega arith in
+    let all : length c.args.statements.now ≤ c.loop-stmt.stmt-index = omega arith in
+    elim c.if-left-eq0.branch [
+      then-left-eq0 w ↦
+        ap (λ e. record { output = c.loop-stmt.output; end = e }) w.end-is
+        ∙ sym (ap run_end_of (run_returns c.args.file c.args.statements.now c.args.steps c.loop-stmt.output c.loop-stmt.values c.loop-stmt.stmt-index c.loop-stmt.left (Spent c.loop-stmt.output) enough all c.loop-stmt.invariant
+        (return_spent c.loop-stmt.values c.loop-stmt.left c.loop-stmt.output w.if-left-eq0.true)))
+    | else-left-eq0 w ↦
+        ap (λ e. record { output = c.loop-stmt.output; end = e }) w.end-is
+        ∙ sym (ap run_end_of (run_returns c.args.file c.args.statements.now c.args.steps c.loop-stmt.output c.loop-stmt.values c.loop-stmt.stmt-index c.loop-stmt.left (Fin Returned c.loop-stmt.values (c.loop-stmt.left - 1) c.loop-stmt.output) enough all c.loop-stmt.invariant
+        (return_done c.loop-stmt.values c.loop-stmt.left c.loop-stmt.output (omega (arith, w.if-left-eq0.false))))) ]

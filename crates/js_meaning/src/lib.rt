@@ -1,0 +1,20 @@
+//! JavaScript files of the form that is written for the first programs: their trees, how a tree is spelled, and
+//! what a list of files prints when it runs.
+//!
+//! - [`tree`]: trees of files.
+//! - [`print`]: the canonical spelling of a tree.
+//! - [`scan`]: one token at a time.
+//! - [`read`]: the tree that bytes spell.
+//! - [`run`]: the run of a list of files.
+#![tactic(auto)]
+
+mod print;
+mod read;
+mod run;
+mod scan;
+mod tree;
+
+pub use print::print_file;
+pub use read::{JsFault, read_file};
+pub use run::run_js;
+pub use tree::{JsFile, JsStmt, MAX_NUMBER, NamedTree, Operand, TreeList};
