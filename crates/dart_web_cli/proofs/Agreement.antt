@@ -206,13 +206,13 @@ same_run program out tree order e =
     let mg = is_meaning Js (λ _. Done) Halted start in
     ⊎_elim
     (λ h.
-        let hf : Comes First main source.Normal tt a.texts = comes_sub First (source.Main program) tt tt source.Normal a.texts h.0 in
-        let hg : Comes Js start target.Returned h.1.0 a.texts = comes_sub Js (target.Start 0 tree) [] h.1.0 target.Returned a.texts (comes_sub Js (target.Main 0 tree) [] h.1.0 target.Returned a.texts h.1.1) in
-        one_conclusion f g mf mg (hf.cost + 0) (hg.cost + 0) a.texts Done
-        (comes_run First (λ _. Done) Halted main source.Normal tt a.texts hf) (comes_run Js (λ _. Done) Halted start target.Returned h.1.0 a.texts hg))
+    let hf : Comes First main source.Normal tt a.texts = comes_sub First (source.Main program) tt tt source.Normal a.texts h.0 in
+    let hg : Comes Js start target.Returned h.1.0 a.texts = comes_sub Js (target.Start 0 tree) [] h.1.0 target.Returned a.texts (comes_sub Js (target.Main 0 tree) [] h.1.0 target.Returned a.texts h.1.1) in
+    one_conclusion f g mf mg (hf.cost + 0) (hg.cost + 0) a.texts Done
+    (comes_run First (λ _. Done) Halted main source.Normal tt a.texts hf) (comes_run Js (λ _. Done) Halted start target.Returned h.1.0 a.texts hg))
     (λ h.
-        let hf : Cuts First main Left a.texts = cuts_sub First (source.Main program) tt Left a.texts h.0 in
-        let hg : Cuts Js start Left a.texts = cuts_sub Js (target.Start 0 tree) [] Left a.texts (cuts_sub Js (target.Main 0 tree) [] Left a.texts h.1) in
-        one_conclusion f g mf mg (hf.cost + 0) (hg.cost + 0) a.texts (Halted Left)
-        (cuts_run First (λ _. Done) Halted main Left a.texts hf) (cuts_run Js (λ _. Done) Halted start Left a.texts hg))
+    let hf : Cuts First main Left a.texts = cuts_sub First (source.Main program) tt Left a.texts h.0 in
+    let hg : Cuts Js start Left a.texts = cuts_sub Js (target.Start 0 tree) [] Left a.texts (cuts_sub Js (target.Main 0 tree) [] Left a.texts h.1) in
+    one_conclusion f g mf mg (hf.cost + 0) (hg.cost + 0) a.texts (Halted Left)
+    (cuts_run First (λ _. Done) Halted main Left a.texts hf) (cuts_run Js (λ _. Done) Halted start Left a.texts hg))
     a.how

@@ -6,7 +6,7 @@ use Rattle.js_meaning.specs.declared.tree.Operand.TheVariants.{Digits, Local}
 use Rattle.js_meaning.specs.declared.tree.JsStmt.{JsStmt}
 use Rattle.js_meaning.specs.declared.tree.JsStmt.TheVariants.{Let, Print}
 use Rattle.js_meaning.specs.Spelling.{without_place}
-use Rattle.js_meaning.proofs.Placed.{text_is_spelled}
+use Rattle.js_meaning.proofs.Canonical.{text_spelled}
 use Rattle.dart_web_cli.specs.Translation.{sum_statements, statements_from, file_of, TranslationIsRight}
 use Rattle.dart_web_cli.proofs.Small.{file_in_range}
 use Rattle.dart_web_cli.proofs.Agreement.{same_run}
@@ -22,7 +22,7 @@ unplaced (sum ∷ program) k = sum_unplaced sum.rest k (Digits sum.first) _ (unp
 
 pub translation_is_right : TranslationIsRight
 translation_is_right bytes out program few is =
-    let spelled = text_is_spelled (file_of program) (file_in_range bytes program few is) in
+    let spelled = text_spelled (file_of program) (file_in_range bytes program few is) in
     record {
       tree = spelled.0;
       spelled = spelled.2;

@@ -87,11 +87,12 @@ fn compile<S: Source, K: Sink>(
 ) -> Status
     requires { IsCompile words.now entry.now out.now }
     ensures { Means (record {
-        words = words.now;
-        old = record { files = S.files source.old; faults = S.faults source.old };
-        new = record { files = S.files source.new; faults = S.faults source.new };
-        before = record { files = K.files sink.old; said = K.said sink.old; faults = K.faults sink.old };
-        now = record { files = K.files sink.new; said = K.said sink.new; faults = K.faults sink.new } }) result }
+      words = words.now;
+      old = record { files = S.files source.old; faults = S.faults source.old };
+      new = record { files = S.files source.new; faults = S.faults source.new };
+      before = record { files = K.files sink.old; said = K.said sink.old; faults = K.faults sink.old };
+      now = record { files = K.files sink.new; said = K.said sink.new; faults = K.faults sink.new };
+    }) result }
 {
     match load(alloc, source, entry) {
         Loaded::Translated(bytes) => match sink.put(out, bytes.as_slice()) {
@@ -112,11 +113,12 @@ fn carry_out<S: Source, K: Sink>(
     sink: &mut K,
 ) -> Status
     ensures { Means (record {
-        words = words.now;
-        old = record { files = S.files source.old; faults = S.faults source.old };
-        new = record { files = S.files source.new; faults = S.faults source.new };
-        before = record { files = K.files sink.old; said = K.said sink.old; faults = K.faults sink.old };
-        now = record { files = K.files sink.new; said = K.said sink.new; faults = K.faults sink.new } }) result }
+      words = words.now;
+      old = record { files = S.files source.old; faults = S.faults source.old };
+      new = record { files = S.files source.new; faults = S.faults source.new };
+      before = record { files = K.files sink.old; said = K.said sink.old; faults = K.faults sink.old };
+      now = record { files = K.files sink.new; said = K.said sink.new; faults = K.faults sink.new };
+    }) result }
 {
     match read_words(words) {
         Err(WordsFault::Usage) => finish(sink, usage_line(alloc), Status::Usage),
@@ -136,17 +138,19 @@ pub fn dart_web_alone<S: Source, K: Sink>(
     sink: &mut K,
 ) -> Status
     ensures means { Means (record {
-        words = words.now;
-        old = record { files = S.files source.old; faults = S.faults source.old };
-        new = record { files = S.files source.new; faults = S.faults source.new };
-        before = record { files = K.files sink.old; said = K.said sink.old; faults = K.faults sink.old };
-        now = record { files = K.files sink.new; said = K.said sink.new; faults = K.faults sink.new } }) result }
+      words = words.now;
+      old = record { files = S.files source.old; faults = S.faults source.old };
+      new = record { files = S.files source.new; faults = S.faults source.new };
+      before = record { files = K.files sink.old; said = K.said sink.old; faults = K.faults sink.old };
+      now = record { files = K.files sink.new; said = K.said sink.new; faults = K.faults sink.new };
+    }) result }
     ensures complete { IsComplete (record {
-        words = words.now;
-        old = record { files = S.files source.old; faults = S.faults source.old };
-        new = record { files = S.files source.new; faults = S.faults source.new };
-        before = record { files = K.files sink.old; said = K.said sink.old; faults = K.faults sink.old };
-        now = record { files = K.files sink.new; said = K.said sink.new; faults = K.faults sink.new } }) result }
+      words = words.now;
+      old = record { files = S.files source.old; faults = S.faults source.old };
+      new = record { files = S.files source.new; faults = S.faults source.new };
+      before = record { files = K.files sink.old; said = K.said sink.old; faults = K.faults sink.old };
+      now = record { files = K.files sink.new; said = K.said sink.new; faults = K.faults sink.new };
+    }) result }
 {
     carry_out(alloc, words, source, sink)
 }

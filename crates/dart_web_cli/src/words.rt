@@ -55,10 +55,7 @@ pub fn read_words(words: &Words) -> Result<Command<'_>, WordsFault>
     }
     let entry = words.get(1);
     let out = words.get(2);
-    if words.get(0) == "compile"
-        && names_entry(entry.as_bytes())
-        && is_file_word(out.as_bytes())
-    {
+    if words.get(0) == "compile" && names_entry(entry.as_bytes()) && is_file_word(out.as_bytes()) {
         Ok(Command::Compile { entry, out })
     } else {
         Err(WordsFault::Usage)

@@ -1,0 +1,72 @@
+#!/usr/bin/env python3
+"""Compiles a generated program of 1,048,000 bytes and prints what that took.
+
+    bench/compile.py [PROGRAM]
+
+PROGRAM is the proved program (default: what bin/zikvorb runs). Nothing is built here. The rows are: what the file is
+made of, its bytes, the bytes put, seconds, bytes per second, and peak memory in megabytes; the least of three runs.
+"""
+import os
+import resource
+import subprocess
+import sys
+import tempfile
+import time
+
+TOP = os.path.dirname(os.path.dirname(os.path.abspath(__file__)))
+SIZE = 1_048_000
+
+
+def fill(statement):
+    """A program of SIZE bytes that repeats a statement."""
+    head, tail = "main(){\n", "}\n"
+    count = (SIZE - len(head) - len(tail)) // len(statement)
+    body = statement * count
+    blanks = SIZE - len(head) - len(body) - len(tail)
+    return head + body + " " * blanks + tail
+
+
+def one_sum(number):
+    """A program of SIZE bytes that prints one long sum."""
+    head, tail = "main(){print(" + number, ");}\n"
+    count = (SIZE - len(head) - len(tail)) // (len(number) + 1)
+    body = ("+" + number) * count
+    blanks = SIZE - len(head) - len(body) - len(tail)
+    return head + body + " " * blanks + tail
+
+
+PROGRAMS = {
+    "short sums": fill("  print(1 + 20 + 300);\n"),
+    "one long sum": one_sum("1"),
+    "prints alone": fill("print(7);"),
+    "blanks": fill(" " * 64),
+}
+
+
+def run(program, folder):
+    """Seconds and peak memory in kilobytes of one run."""
+    start = time.perf_counter()
+    child = subprocess.Popen([program, "compile", "a.dart", "out.js"], cwd=folder)
+    _, status, usage = os.wait4(child.pid, 0)
+    seconds = time.perf_counter() - start
+    code = os.waitstatus_to_exitcode(status)
+    if code != 0:
+        sys.exit(f"the program ended with status {code}")
+    return seconds, usage.ru_maxrss
+
+
+def main():
+    default = os.path.join(TOP, "crates", "dart_web_cli", "out", "dart_web_cli")
+    program = os.path.abspath(sys.argv[1] if len(sys.argv) > 1 else default)
+    print(f"{'file':<14}{'bytes':>10}{'put':>12}{'seconds':>9}{'bytes/s':>12}{'MB':>7}")
+    for name, text in PROGRAMS.items():
+        with tempfile.TemporaryDirectory() as folder:
+            with open(os.path.join(folder, "a.dart"), "w", encoding="ascii") as file:
+                file.write(text)
+            seconds, memory = min(run(program, folder) for _ in range(3))
+            put = os.path.getsize(os.path.join(folder, "out.js"))
+        print(f"{name:<14}{len(text):>10}{put:>12}{seconds:>9.3f}{len(text) / seconds:>12.0f}{memory / 1024:>7.0f}")
+
+
+if __name__ == "__main__":
+    main()

@@ -1,0 +1,4 @@
+pub mod Outside
+pub mod InMemory
+pub mod Places
+pub mod Room
