@@ -12,7 +12,7 @@ use Rattle.std.proofs.str.Utf16.{IsPair, one_unit, pair_units, lone_unit_char_lo
 use Rattle.std.proofs.str.Laws.{both}
 use Rattle.std.specs.Cmp.Derive.{both_true}
 use Rattle.std.proofs.lemmas.List.Elements.{All-nil, All-head, All-tail, All-from_get_or}
-use lib.Utf8.{low_scalar}
+use Rattle.std.proofs.Math.Utf8.{low_scalar}
 use Rattle.code_units.specs.Text.{units_of_chars, utf8_of, units_of}
 use Rattle.code_units.specs.TextLaws.{Utf8ComesBack, PairedUnitsComeBack, WritesUtf8, ReadsPairs, UnitsTellApart, UnitsJoin, AsciiIsItsUnits}
 use Rattle.code_units.proofs.Units.{char_back, chars_back}

@@ -10,7 +10,7 @@ use Rattle.std.proofs.lemmas.List.{append-nil, append_cancel_left, nil_from_leng
 use Rattle.std.proofs.lemmas.Str.{length-encode, len_utf8_bounds, chars-nil, chars_past_char, utf16_chars-nil, utf16_chars_lone, utf16_chars_pair}
 use Rattle.std.proofs.str.Utf16.{IsPair, one_unit, two_units, lone_unit_char_low, lone_unit_char_high}
 use Rattle.std.proofs.str.Laws.{both}
-use lib.Utf8.{scalar_cases}
+use Rattle.std.proofs.Math.Utf8.{scalar_cases}
 use Rattle.code_units.specs.Text.{units_of_chars, units_of}
 
 pub units_of-nil : (bytes : List ℕ) → length bytes ≡ 0 → units_of bytes ≡ []

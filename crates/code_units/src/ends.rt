@@ -4,7 +4,7 @@ use crate::lists::Lines;
 use crate::text::Text;
 
 /// What is shown of a thrown value that nothing caught.
-#[derive(Debug, Drop)]
+#[derive(Debug, PartialEq, Eq, Drop)]
 pub enum Shown {
     /// Null.
     Null,
@@ -19,7 +19,7 @@ pub enum Shown {
 }
 
 /// How a run ended.
-#[derive(Debug, Drop)]
+#[derive(Debug, PartialEq, Eq, Drop)]
 pub enum End {
     /// Nothing was left to do.
     Done,

@@ -102,7 +102,8 @@ fn a_run_has_an_output_and_an_end(rt: HostRuntime) -> Result<(), Fail> {
         end: End::Threw(Shown::Class(Text::from_str(alloc, "Error")?)),
     };
     assert!(rt; run.output.get(0).is("3"));
-    assert!(rt; matches!(&run.end, End::Threw(Shown::Class(name)) if name.is("Error")));
+    assert!(rt; run.end == End::Threw(Shown::Class(Text::from_str(alloc, "Error")?)));
+    assert!(rt; run.end != End::Threw(Shown::Str(Text::from_str(alloc, "Error")?)));
     Ok(())
 }
 

@@ -9,6 +9,7 @@ ghost use Rattle.code_units.specs.declared.text.TextError.TheVariants.{Memory};
 use crate::bytes::Bytes;
 use std::alloc::{AllocError, Global};
 use std::marker::Model;
+use thiserror::Error;
 
 /// Text, seen as the list of its UTF-16 units. A surrogate may stand alone.
 #[derive(Debug, Drop)]
@@ -26,11 +27,13 @@ impl Model for Text {
 }
 
 /// Why bytes gave no text.
-#[derive(Clone, Copy, Debug, PartialEq, Eq)]
+#[derive(Clone, Copy, Debug, PartialEq, Eq, Error)]
 pub enum TextError {
     /// The bytes are not UTF-8; their longest front that is UTF-8 has `at` bytes.
+    #[error("not UTF-8 at byte {at}")]
     BadUtf8 { at: u64 },
     /// Memory was wanting.
+    #[error("out of memory")]
     Memory,
 }
 

@@ -42,6 +42,7 @@ fn one_file(alloc: Global, name: &str, bytes: &[u8]) -> Result<Files, Fail> {
 }
 
 // What is tried: the words, what `a.dart` holds, and the numbers of the calls of source and sink that fail.
+#[derive(Clone, Copy)]
 struct Row<'a> {
     words: &'a [&'a str],
     file: &'a str,
@@ -57,6 +58,14 @@ fn compile_row(file: &str) -> Row<'_> {
         source_fails: &[],
         sink_fails: &[],
     }
+}
+
+fn assert_file(rt: &impl Abort, file: &NamedFile, name: &str, bytes: &str) {
+    assert!(rt; file.name.is(name), "not {name}");
+    assert!(rt;
+        file.bytes.as_slice() == bytes.as_bytes(),
+        "{name} is other"
+    );
 }
 
 // A row's status, what it said, and what `out.js` holds beside a file that was there before and stays.
@@ -82,24 +91,13 @@ fn check(
     )?;
     let answer = dart_web_alone(alloc, &words, &mut source, &mut sink);
     assert_eq!(rt; answer, status, "at {}", row.file);
-    assert!(rt;
-        sink.said().as_slice() == said.as_bytes(),
-        "said at {}",
-        row.file
-    );
+    assert!(rt; sink.said() == said.as_bytes(), "said at {}", row.file);
     let files = sink.files();
     let count = if put.is_some() { 2 } else { 1 };
     assert_eq!(rt; files.len(), count, "files at {}", row.file);
-    let old = files.get(0);
-    assert!(rt; old.name.is("old.js") && old.bytes.as_slice() == b"old".as_slice());
+    assert_file(rt, &files[0], "old.js", "old");
     if let Some(bytes) = put {
-        let file = files.get(1);
-        assert!(rt; file.name.is("out.js"));
-        assert!(rt;
-            file.bytes.as_slice() == bytes.as_bytes(),
-            "bytes at {}",
-            row.file
-        );
+        assert_file(rt, &files[1], "out.js", bytes);
     }
     Ok(())
 }
@@ -181,28 +179,44 @@ fn a_failed_call_is_told(rt: HostRuntime) -> Result<(), Fail> {
     check(&rt, alloc, &unsaid, Status::WriteFault, "", None)
 }
 
+// The program of 19 bytes with so many blanks behind it.
+fn with_blanks(alloc: Global, blanks: u32) -> Result<Vec<u8>, Fail> {
+    let mut bytes = SUM.as_bytes().to_vec(alloc)?;
+    for _ in 0..blanks {
+        bytes.push(b' ')?;
+    }
+    Ok(bytes)
+}
+
+fn check_length(
+    rt: &impl Abort,
+    alloc: Global,
+    blanks: u32,
+    status: Status,
+    said: &str,
+) -> Result<(), Fail> {
+    let bytes = with_blanks(alloc, blanks)?;
+    let files = one_file(alloc, "a.dart", bytes.as_slice())?;
+    let mut source = MemSource::new(files, NumberList::new(alloc));
+    let mut sink = MemSink::new(alloc, Files::new(alloc), 1, 4096, NumberList::new(alloc))?;
+    let words = words_of(alloc, &COMPILE)?;
+    let answer = dart_web_alone(alloc, &words, &mut source, &mut sink);
+    assert_eq!(rt; answer, status);
+    assert!(rt; sink.said() == said.as_bytes());
+    Ok(())
+}
+
 #[test]
 fn a_file_may_have_so_many_bytes(rt: HostRuntime) -> Result<(), Fail> {
     let alloc = rt.alloc();
-    let words = words_of(alloc, &COMPILE)?;
-    for (length, status) in [(1_048_576, Status::Ok), (1_048_577, Status::Refused)] {
-        let mut bytes = SUM.as_bytes().to_vec(alloc)?;
-        while bytes.len() < length {
-            bytes.push(b' ')?;
-        }
-        let files = one_file(alloc, "a.dart", bytes.as_slice())?;
-        let mut source = MemSource::new(files, NumberList::new(alloc));
-        let mut sink = MemSink::new(alloc, Files::new(alloc), 1, 4096, NumberList::new(alloc))?;
-        let answer = dart_web_alone(alloc, &words, &mut source, &mut sink);
-        assert_eq!(rt; answer, status);
-        let said = if length == 1_048_576 {
-            ""
-        } else {
-            "refused N2 a.dart 0\n"
-        };
-        assert!(rt; sink.said().as_slice() == said.as_bytes());
-    }
-    Ok(())
+    check_length(&rt, alloc, 1_048_576 - 19, Status::Ok, "")?;
+    check_length(
+        &rt,
+        alloc,
+        1_048_577 - 19,
+        Status::Refused,
+        "refused N2 a.dart 0\n",
+    )
 }
 
 // The run of a translation, read back as the file out.js.

@@ -1,16 +1,16 @@
 -- The canonical text of a tree is a spelling of the tree that has the places of this text.
-use Rattle.std.proofs.Common.{◌≡◌, ℕ, suc, ◌-◌, ◌<◌, ◌≤◌, ◌^◌, Bool, true, false, cond, List, [], ◌∷◌, ◌++◌, length, map, refl, sym, ap, ◌∙◌, subst, append_assoc}
+use Rattle.std.proofs.Common.{◌≡◌, ℕ, suc, ◌-◌, ◌<◌, ◌^◌, Bool, true, false, cond, List, [], ◌∷◌, ◌++◌, length, map, refl, ap, subst, append_assoc}
 use Rattle.std.specs.Prelude.{codes}
-use Rattle.std.specs.Fmt.{decimal}
 use Rattle.std.specs.Str.{bytes_eq}
 use Rattle.js_meaning.specs.declared.tree.Operand.{Operand}
 use Rattle.js_meaning.specs.declared.tree.JsStmt.{JsStmt}
 use Rattle.js_meaning.specs.declared.tree.JsStmt.TheVariants.{Let, Print}
 use Rattle.js_meaning.specs.declared.scan.Class.TheVariants.{Space, Blank, Run as InRun}
-use Rattle.js_meaning.specs.Tokens.{gap_behind, AllIn, EndsBefore, IsRun, Part, Run, Sign, Place, AreParts}
-use Rattle.js_meaning.specs.Spelling.{name_of, operand_text, let_parts, print_parts, last_parts, body_parts, file_parts, IsInRange, AreInRange, IsSpelled, without_place, SameTree}
-use Rattle.js_meaning.specs.Text.{line_end, let_line, print_line, first_line, last_lines, body_text, file_text}
+use Rattle.js_meaning.specs.Tokens.{gap_behind, AllIn, EndsBefore, IsRun, Part, Run, Sign}
+use Rattle.js_meaning.specs.Spelling.{name_of, operand_text, let_parts, print_parts, last_parts, body_parts, IsInRange, AreInRange, IsSpelled, without_place, SameTree}
+use Rattle.js_meaning.specs.Text.{line_end, let_line, print_line, last_lines, body_text, file_text}
 use Rattle.js_meaning.proofs.Taken.{At}
+use Rattle.js_meaning.proofs.Exact.{one_tree_only}
 use Rattle.js_meaning.proofs.Numbers.{name_is_run, operand_is_run}
 
 -- a run with nothing behind it
@@ -57,7 +57,7 @@ blank_gap text = by (bytes_eq text (codes "return")) where
 ends : (size : ℕ) → At size last_parts last_lines
 ends size =
     let call : At size (Run (codes "main$") ∷ Sign 40 ∷ Sign 41 ∷ Sign 59 ∷ []) (codes "main$();" ++ line_end) =
-      run (codes "main$") (refl, (refl, (refl, (refl, (refl, tt))))) refl (sign 40 (sign 41 (sign_gap 59 10 (refl, tt) (record { it = refl })))) in
+    run (codes "main$") (refl, (refl, (refl, (refl, (refl, tt))))) refl (sign 40 (sign 41 (sign_gap 59 10 (refl, tt) (record { it = refl })))) in
     let null = run (codes "null") (refl, (refl, (refl, (refl, tt)))) refl (sign_gap 59 10 (refl, tt) (sign_gap 125 10 (refl, tt) call)) in
     run_blank (codes "return") (refl, (refl, (refl, (refl, (refl, (refl, tt)))))) (refl, tt) null
 
@@ -96,3 +96,8 @@ text_spelled file small =
     let body = body_spelled size 0 file small in
     let head = run_blank (codes "function") (refl, (refl, (refl, (refl, (refl, (refl, (refl, (refl, tt)))))))) (refl, tt) (run (codes "main$") (refl, (refl, (refl, (refl, (refl, tt))))) refl (sign 40 (sign_gap 41 32 (refl, tt) (sign_gap 123 10 (refl, tt) body)))) in
     (placed size 0 file, record { same = placed_same size 0 file }, record { gap = []; rest = file_text file; whole = refl; blank = tt; parts = head.it; in_range = placed_small size 0 file small })
+
+pub text_is_read_back : (file other : List JsStmt) → AreInRange 0 file → IsSpelled (file_text file) other → SameTree file other
+text_is_read_back file other small is =
+    let it = text_spelled file small in
+    subst (SameTree file) (one_tree_only (file_text file) it.0 other it.2 is) it.1

@@ -1,20 +1,19 @@
 -- The reader finds the tree whose spelling the bytes are, and no other.
-use Rattle.std.proofs.Common.{◌≡◌, ℕ, zero, suc, ◌+◌, ◌-◌, ◌<◌, ◌≤◌, Bool, true, false, cond, List, [], ◌∷◌, ◌++◌, length, Option, Some, None, Result, Ok, Err, refl, sym, ap, ◌∙◌, subst, arith, append_assoc}
+use Rattle.std.proofs.Common.{◌≡◌, ℕ, zero, suc, ◌<◌, ◌≤◌, Bool, true, false, cond, List, [], ◌∷◌, ◌++◌, length, Some, None, Result, Ok, Err, refl, sym, ap, ◌∙◌, subst, arith, append_assoc}
 use Rattle.std.specs.Prelude.{codes, IfOk, IfErr}
-use Rattle.std.specs.Str.{bytes_eq}
 use Rattle.std.proofs.lemmas.List.{append-nil, length-append}
 use Rattle.js_meaning.specs.declared.tree.JsStmt.{JsStmt}
 use Rattle.js_meaning.specs.declared.tree.JsStmt.TheVariants.{Let, Print}
 use Rattle.js_meaning.specs.declared.read.JsFault.{JsFault}
 use Rattle.js_meaning.specs.declared.read.JsFault.TheVariants.{NotInProfile, Memory}
-use Rattle.js_meaning.specs.declared.scan.Class.TheVariants.{Blank, Run as InRun}
-use Rattle.js_meaning.specs.Tokens.{AllIn, IsRun, Part, Run, Sign, Place, AreParts}
-use Rattle.js_meaning.specs.Spelling.{let_parts, print_parts, last_parts, body_parts, file_parts, AreInRange, IsSpelled}
+use Rattle.js_meaning.specs.declared.scan.Class.TheVariants.{Blank}
+use Rattle.js_meaning.specs.Tokens.{IsRun, Part, Run, Sign, Place, AreParts}
+use Rattle.js_meaning.specs.Spelling.{let_parts, print_parts, body_parts, file_parts, AreInRange, IsSpelled, IsFaultOf}
 use Rattle.js_meaning.specs.Scanner.{◌>>=◌, front, back, begins}
-use Rattle.js_meaning.specs.Reader.{statement, opening, closing, closed, lets_after, statements, read, Gives, IsFaultOf}
+use Rattle.js_meaning.specs.Reader.{statement, opening, closing, closed, lets_after, statements, read, Gives}
 use Rattle.js_meaning.proofs.Fronts.{front_back, front_all, back_at}
-use Rattle.js_meaning.proofs.Taken.{IsDark, At, Takes, after, some_same, begins_at, dark_ends}
-use Rattle.js_meaning.proofs.Statements.{takes_let, takes_print, is_let, is_print, GivesStatement, gives_statement, takes_opening, gives_opening, takes_closing, gives_closing}
+use Rattle.js_meaning.proofs.Taken.{IsDark, At, after, some_same, begins_at, dark_ends}
+use Rattle.js_meaning.proofs.Statements.{takes_let, takes_print, is_let, is_print, gives_statement, takes_opening, gives_opening, takes_closing, gives_closing}
 
 -- A tree has no more statements than its file has bytes.
 

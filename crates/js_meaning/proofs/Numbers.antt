@@ -1,21 +1,21 @@
 -- A number and a name are read from their only spelling.
-use Rattle.std.proofs.Common.{◌≡◌, ◌≢◌, ℕ, ◌<◌, ◌≤◌, ◌^◌, Bool, true, false, cond, List, [], ◌∷◌, ◌++◌, length, Option, Some, None, refl, sym, ap, ◌∙◌, subst, arith}
-use Rattle.std.specs.Prelude.{nat_le, nat_lt, codes, ◌&&◌, ◌||◌, ◌==◌}
+use Rattle.std.proofs.Common.{◌≡◌, ℕ, ◌<◌, ◌≤◌, ◌^◌, Bool, true, false, cond, List, [], ◌∷◌, ◌++◌, length, Option, Some, None, refl, sym, ap, ◌∙◌, subst, arith}
+use Rattle.std.specs.Prelude.{nat_lt, codes, ◌&&◌, ◌==◌}
 use Rattle.std.specs.Str.{bytes_eq}
 use Rattle.std.specs.Str.Parse.{AllDigits, digits_value}
 use Rattle.std.specs.Fmt.{decimal}
-use Rattle.std.proofs.lemmas.Bool.{lt-ltb, le-leb, ltb-true, leb-true, eqb-true, eq-eqb, and_parts, and_from, or_left, or_right, or_cases, false_from_ne_true, cases_Bool}
+use Rattle.std.proofs.lemmas.Bool.{lt-ltb, le-leb, ltb-true, leb-true, eqb-true, and_parts, and_from, or_left, or_right}
 use Rattle.std.proofs.lemmas.Slice.Eq.{bytes_eq-Decides}
 use Rattle.std.proofs.lemmas.Str.Parse.{digit_from_value}
 use Rattle.std.proofs.lemmas.Fmt.{decimal_is_IsNumeral}
 use Rattle.js_meaning.specs.declared.tree.TheConstants.{MAX_NUMBER}
 use Rattle.js_meaning.specs.declared.tree.Operand.{Operand}
 use Rattle.js_meaning.specs.declared.tree.Operand.TheVariants.{Digits, Local}
-use Rattle.js_meaning.specs.declared.scan.Class.TheVariants.{Space, Blank, Digit, Run as InRun}
+use Rattle.js_meaning.specs.declared.scan.Class.TheVariants.{Digit, Run as InRun}
 use Rattle.js_meaning.specs.Tokens.{is_in, is_digit, is_letter, AllIn, IsRun}
 use Rattle.js_meaning.specs.Spelling.{name_of, operand_text, IsInRange}
 use Rattle.js_meaning.specs.Scanner.{◌>>=◌, front, back, number_of, local_of, operand_from, operand_of}
-use Rattle.js_meaning.proofs.Fronts.{front_back, front_all, front_at, back_at}
+use Rattle.js_meaning.proofs.Fronts.{front_back, front_at, back_at}
 
 pub same_bytes : (a b : List ℕ) → a ≡ b → bytes_eq a b ≡ true
 same_bytes a b e = (bytes_eq-Decides a b).1 e

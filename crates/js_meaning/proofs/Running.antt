@@ -1,9 +1,9 @@
 -- The runner's steps.
-use Rattle.std.proofs.Common.{◌≡◌, ℕ, zero, suc, ◌+◌, ◌-◌, ◌<◌, ◌≤◌, Bool, true, false, cond, List, [], ◌∷◌, ◌++◌, Option, Some, None, length, get_or, drop, refl, sym, ap, ◌∙◌, subst, arith, drop-cons, add-one}
+use Rattle.std.proofs.Common.{◌≡◌, ℕ, zero, suc, ◌+◌, ◌-◌, ◌<◌, ◌≤◌, Bool, true, false, cond, List, [], ◌∷◌, ◌++◌, Option, Some, None, length, get_or, drop, refl, sym, ap, ◌∙◌, arith, drop-cons, add-one}
 use Rattle.std.specs.Prelude.{nat_le}
 use Rattle.std.specs.Fmt.{decimal}
 use Rattle.std.proofs.lemmas.List.{drop_all}
-use Rattle.meanings.specs.Act.{fin, quit, sub, Res, Fin, Spent, Cut, Deep, Halt, Left, Stuck, ResOf, then_on, means}
+use Rattle.meanings.specs.Act.{fin, quit, sub, Fin, Spent, Cut, Deep, Left, Stuck, ResOf, then_on, means}
 use Rattle.meanings.specs.Runs.{shown, Going}
 use Rattle.meanings.specs.Ends.{Done, Halted}
 use Rattle.meanings.proofs.Acts.{means_none, means_sub, means_bind}
@@ -12,7 +12,7 @@ use Rattle.js_meaning.specs.declared.tree.Operand.{Operand}
 use Rattle.js_meaning.specs.declared.tree.JsStmt.{JsStmt}
 use Rattle.js_meaning.specs.declared.tree.JsStmt.TheVariants.{Let, Print}
 use Rattle.js_meaning.specs.declared.tree.NamedTree.{NamedTree}
-use Rattle.js_meaning.specs.Meaning.{Completion, Start, Main, Statement, Return, ToString, HostPrint, Normal, Returned, Text, Js, value_of, with_value, declares, prints, statement, body, last_file, js}
+use Rattle.js_meaning.specs.Meaning.{Start, Main, Statement, Return, ToString, HostPrint, Normal, Returned, Js, value_of, with_value, declares, prints, statement, body, last_file, js}
 use Rattle.js_meaning.specs.Runner.{file_run}
 
 -- what a statement that stands alone comes to

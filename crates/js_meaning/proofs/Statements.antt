@@ -1,12 +1,12 @@
 -- The reader takes a statement, a beginning and an end exactly where one stands.
-use Rattle.std.proofs.Common.{◌≡◌, ℕ, suc, ◌+◌, ◌-◌, ◌<◌, ◌≤◌, ◌^◌, Bool, true, false, cond, List, [], ◌∷◌, ◌++◌, length, Option, Some, None, refl, sym, ap, ◌∙◌, subst, arith}
+use Rattle.std.proofs.Common.{◌≡◌, ℕ, suc, ◌-◌, ◌<◌, ◌^◌, Bool, true, false, cond, List, [], ◌∷◌, length, Option, Some, None, refl, sym, ap, ◌∙◌, subst}
 use Rattle.std.specs.Prelude.{codes}
 use Rattle.js_meaning.specs.declared.tree.Operand.{Operand}
 use Rattle.js_meaning.specs.declared.tree.JsStmt.{JsStmt}
 use Rattle.js_meaning.specs.declared.tree.JsStmt.TheVariants.{Let, Print}
-use Rattle.js_meaning.specs.Tokens.{Part, Run, Sign, Place, AreParts}
-use Rattle.js_meaning.specs.Spelling.{name_of, operand_text, let_parts, print_parts, last_parts, body_parts, file_parts, IsInRange, AreInRange}
-use Rattle.js_meaning.specs.Scanner.{◌>>=◌, begins, word, sign, operand, name}
+use Rattle.js_meaning.specs.Tokens.{Part, Run, Sign, Place}
+use Rattle.js_meaning.specs.Spelling.{let_parts, print_parts, last_parts, body_parts, IsInRange, AreInRange}
+use Rattle.js_meaning.specs.Scanner.{begins, word, sign, operand, name}
 use Rattle.js_meaning.specs.Reader.{let_statement, print_statement, statement, opening, closing, closed, lets_after}
 use Rattle.js_meaning.proofs.Taken.{IsDark, At, Takes, takes_word, takes_sign, takes_operand, takes_name, begins_at, after, some_same, gives_word, gives_sign, gives_operand, gives_name, operand_small, name_small}
 
@@ -159,6 +159,9 @@ closing_found : (bytes a b c d e f g rest : List ℕ) → word (codes "return") 
 unfolding closing
 closing_found bytes a b c d e f g rest ea eb ec ed ee ef eg er = rw (ea, eb, ec, ed, ee, ef, eg, er) refl
 
+closed_at : (o : Option (List ℕ)) (rest : List ℕ) → o ≡ Some rest → rest ≡ [] → closed o ≡ true
+closed_at o rest found none = ap closed found ∙ ap (λ r. closed (Some r)) none
+
 pub takes_closing : (size : ℕ) (bytes : List ℕ) → At size last_parts bytes → closed (closing bytes) ≡ true
 takes_closing size bytes is =
     let a = takes_word size (codes "return") _ bytes is tt in
@@ -169,7 +172,7 @@ takes_closing size bytes is =
     let f = takes_sign size 40 _ e.rest e.more refl in
     let g = takes_sign size 41 _ f.rest f.more refl in
     let h = takes_sign size 59 [] g.rest g.more tt in
-    ap closed (closing_found bytes a.rest b.rest c.rest d.rest e.rest f.rest g.rest h.rest a.is b.is c.is d.is e.is f.is g.is h.is) ∙ ap (λ r. closed (Some r)) h.more.it
+    closed_at (closing bytes) h.rest (closing_found bytes a.rest b.rest c.rest d.rest e.rest f.rest g.rest h.rest a.is b.is c.is d.is e.is f.is g.is h.is) h.more.it
 
 ended : (o : Option (List ℕ)) → closed o ≡ true → o ≡ Some []
 ended None e = cc

@@ -1,12 +1,10 @@
 -- The scanner takes a token exactly where one stands.
-use Rattle.std.proofs.Common.{◌≡◌, ◌≢◌, ℕ, suc, ◌<◌, ◌≤◌, ◌+◌, ◌^◌, Bool, true, false, cond, List, [], ◌∷◌, ◌++◌, length, Option, Some, None, inl, inr, refl, sym, ap, ◌∙◌, subst, arith}
-use Rattle.std.specs.Prelude.{codes, ◌==◌, ◌||◌, ◌&&◌, nat_le}
+use Rattle.std.proofs.Common.{◌≡◌, ℕ, ◌<◌, ◌^◌, Bool, true, false, cond, List, [], ◌∷◌, ◌++◌, Option, Some, None, inl, inr, refl, sym, ap, ◌∙◌, subst}
+use Rattle.std.specs.Prelude.{codes, ◌==◌, ◌||◌}
 use Rattle.std.specs.Str.{bytes_eq}
 use Rattle.std.proofs.lemmas.Bool.{eqb-true, eq-eqb, or_cases, false_from_ne_true}
-use Rattle.std.proofs.lemmas.List.{length-append}
 use Rattle.js_meaning.specs.declared.tree.Operand.{Operand}
-use Rattle.js_meaning.specs.declared.scan.Class.{Class}
-use Rattle.js_meaning.specs.declared.scan.Class.TheVariants.{Space, Blank, Digit, Run as InRun}
+use Rattle.js_meaning.specs.declared.scan.Class.TheVariants.{Space, Blank, Run as InRun}
 use Rattle.js_meaning.specs.Tokens.{is_in, is_space, gap_behind, AllIn, EndsBefore, IsRun, Part, Run, Sign, Place, AreParts}
 use Rattle.js_meaning.specs.Spelling.{name_of, operand_text, IsInRange}
 use Rattle.js_meaning.specs.Scanner.{◌>>=◌, front, back, run_of, run, begins, word, sign, local_of, operand_of, operand, name}
@@ -47,10 +45,12 @@ is_10 b e = ap (is_in InRun) (eqb-true b 10 e)
 blank_no_run : (b : ℕ) → is_in Blank b ≡ true → is_in InRun b ≡ false
 blank_no_run b e =
     elim (or_cases (is_space b || b == 13) (b == 10) e) [
-      inl f ↦ elim (or_cases (is_space b) (b == 13) f) [
-        inl g ↦ elim (or_cases (b == 32) (b == 9) g) [ inl h ↦ is_32 b h | inr h ↦ is_9 b h ]
-      | inr g ↦ is_13 b g ]
-    | inr f ↦ is_10 b f ]
+      | inl f ↦ elim (or_cases (is_space b) (b == 13) f) [
+        | inl g ↦ elim (or_cases (b == 32) (b == 9) g) [ inl h ↦ is_32 b h | inr h ↦ is_9 b h ]
+        | inr g ↦ is_13 b g
+      ]
+      | inr f ↦ is_10 b f
+    ]
 
 run_no_blank : (b : ℕ) → is_in InRun b ≡ true → is_in Blank b ≡ false
 run_no_blank b e = false_from_ne_true (is_in Blank b) (λ t. let f = blank_no_run b t in cc)

@@ -1,7 +1,7 @@
 -- What the files mean, by ECMA-262 (its 14th edition; sections are given in brackets): the nodes of the language, what
 -- each does when it begins, and the run of each number of steps.
 -- One step begins each statement and each call, the call of a function of the host's among them.
-use Rattle.std.specs.Prelude.{◌≡◌, ◌≢◌, ℕ, ◌+◌, nat_le, List, [], ◌∷◌, ◌++◌, Option, Some, None, slice_get, if◌then◌else◌}
+use Rattle.std.specs.Prelude.{◌≢◌, ℕ, ◌+◌, nat_le, List, [], ◌∷◌, ◌++◌, Option, Some, None, slice_get, if◌then◌else◌}
 use Rattle.std.specs.Fmt.{decimal}
 use Rattle.meanings.specs.Act.{Act, fin, quit, sub, Halt, Left, Stuck, Lang}
 use Rattle.meanings.specs.Runs.{run_of}

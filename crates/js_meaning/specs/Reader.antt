@@ -5,7 +5,6 @@ use Rattle.js_meaning.specs.declared.tree.JsStmt.TheVariants.{Let, Print}
 use Rattle.js_meaning.specs.declared.read.JsFault.{JsFault}
 use Rattle.js_meaning.specs.declared.read.JsFault.TheVariants.{NotInProfile, Memory}
 use Rattle.js_meaning.specs.declared.scan.Class.TheVariants.{Blank}
-use Rattle.js_meaning.specs.Spelling.{IsSpelled}
 use Rattle.js_meaning.specs.Scanner.{◌>>=◌, back, begins, word, sign, operand, name}
 
 unfoldable pub let_statement : ℕ → ℕ → List ℕ → Option (JsStmt × List ℕ)
@@ -84,8 +83,3 @@ Fails Memory found = Unit {0}
 abbrev pub Gives : Result (List JsStmt) JsFault → Option (List JsStmt) → Type 0
 Gives (Ok file) found = found ≡ Some file
 Gives (Err fault) found = Fails fault found
-
--- Why bytes have no tree: they are no spelling, or memory was wanting, which no bytes rule out.
-abbrev pub IsFaultOf : List ℕ → JsFault → Type 0
-IsFaultOf bytes (NotInProfile at) = (at ≡ 0) × ((file : List JsStmt) → IsSpelled bytes file → ⊥)
-IsFaultOf bytes Memory = Unit {0}

@@ -6,6 +6,8 @@ use Rattle.js_meaning.specs.declared.tree.Operand.{Operand}
 use Rattle.js_meaning.specs.declared.tree.Operand.TheVariants.{Digits, Local}
 use Rattle.js_meaning.specs.declared.tree.JsStmt.{JsStmt}
 use Rattle.js_meaning.specs.declared.tree.JsStmt.TheVariants.{Let, Print}
+use Rattle.js_meaning.specs.declared.read.JsFault.{JsFault}
+use Rattle.js_meaning.specs.declared.read.JsFault.TheVariants.{NotInProfile, Memory}
 use Rattle.js_meaning.specs.declared.scan.Class.TheVariants.{Blank}
 use Rattle.js_meaning.specs.Tokens.{AllIn, Part, Run, Sign, Place, AreParts}
 
@@ -61,6 +63,11 @@ pub record IsSpelled (bytes : List ℕ) (file : List JsStmt) : Type 0 where
   pub blank : AllIn Blank gap
   pub parts : AreParts (length bytes) (file_parts file) rest
   pub in_range : AreInRange 0 file
+
+-- Why bytes have no tree: they are no spelling, or memory was wanting, which no bytes rule out.
+abbrev pub IsFaultOf : List ℕ → JsFault → Type 0
+IsFaultOf bytes (NotInProfile at) = (at ≡ 0) × ((file : List JsStmt) → IsSpelled bytes file → ⊥)
+IsFaultOf bytes Memory = Unit {0}
 
 -- Two trees that differ in their places alone.
 abbrev pub without_place : JsStmt → JsStmt

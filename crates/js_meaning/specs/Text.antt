@@ -37,3 +37,7 @@ file_text file = first_line ++ body_text 0 file
 -- The canonical text of a tree in range is a spelling of the tree that has the places of this text.
 abbrev pub TextIsSpelled : Type 0
 TextIsSpelled = (file : List JsStmt) → AreInRange 0 file → (placed : List JsStmt) × SameTree file placed × IsSpelled (file_text file) placed
+
+-- Each tree that it is a spelling of differs from the printed one in its places alone.
+abbrev pub TextIsReadBack : Type 0
+TextIsReadBack = (file other : List JsStmt) → AreInRange 0 file → IsSpelled (file_text file) other → SameTree file other

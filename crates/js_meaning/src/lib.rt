@@ -14,7 +14,10 @@ mod run;
 mod scan;
 mod tree;
 
-pub use print::print_file;
-pub use read::{JsFault, read_file};
-pub use run::run_js;
+pub use print::{print_file, text_is_spelled};
+pub use read::{JsFault, one_tree, read_file};
+pub use run::{run_js, runs_are_of_a_meaning};
 pub use tree::{JsFile, JsStmt, MAX_NUMBER, NamedTree, Operand, TreeList};
+
+#[cfg(test)]
+mod tests;

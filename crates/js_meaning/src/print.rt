@@ -3,7 +3,7 @@
 ghost use Rattle.std.specs.Prelude.{◌≡◌, ◌++◌, ◌∷◌, [], IfOk, OnOk, codes};
 ghost use Rattle.std.specs.Fmt.{decimal};
 ghost use Rattle.js_meaning.specs.Spelling.{operand_text};
-ghost use Rattle.js_meaning.specs.Text.{let_line, print_line, file_text, TextIsSpelled};
+ghost use Rattle.js_meaning.specs.Text.{let_line, print_line, file_text, TextIsSpelled, TextIsReadBack};
 
 use crate::tree::{JsFile, JsStmt, Operand};
 use code_units::Bytes;
@@ -30,12 +30,7 @@ fn push_operand(out: &mut Bytes, operand: Operand) -> Result<(), AllocError>
     }
 }
 
-fn push_let(
-    out: &mut Bytes,
-    number: u64,
-    left: Operand,
-    right: Operand,
-) -> Result<(), AllocError>
+fn push_let(out: &mut Bytes, number: u64, left: Operand, right: Operand) -> Result<(), AllocError>
     ensures { OnOk result (out.new ≡ out.old ++ let_line number left right) }
 {
     out.extend(b"let a")?;
@@ -76,8 +71,9 @@ pub fn print_file(alloc: Global, file: &JsFile) -> Result<Bytes, AllocError>
     Ok(out)
 }
 
-/// A law: the canonical spelling of a tree in range is a spelling of a tree that differs in its places alone.
+/// A law: the canonical spelling of a tree in range is a spelling, and only of trees that differ from it in their places
+/// alone. So a printed file is read back as the tree that was printed.
 pub fn text_is_spelled()
-    ensures { TextIsSpelled }
-{
-}
+    ensures spelled { TextIsSpelled }
+    ensures read_back { TextIsReadBack }
+{}

@@ -1,11 +1,11 @@
 //! The tree that bytes spell.
 
-ghost use Rattle.std.specs.Prelude.{◌≡◌, ◌<◌, [], List, IfOk, IfErr};
+ghost use Rattle.std.specs.Prelude.{◌≡◌, ◌<◌, ◌-◌, [], List, length, IfOk, IfErr};
 ghost use Rattle.std.specs.Option.{option_map};
 ghost use Rattle.js_meaning.specs.declared.tree.JsStmt.{JsStmt};
-ghost use Rattle.js_meaning.specs.Spelling.{IsSpelled, OneTree};
+ghost use Rattle.js_meaning.specs.Spelling.{IsSpelled, IsFaultOf, OneTree};
 ghost use Rattle.js_meaning.specs.Reader as spec;
-ghost use Rattle.js_meaning.specs.Reader.{Gives, IsFaultOf};
+ghost use Rattle.js_meaning.specs.Reader.{Gives};
 
 use crate::scan::{Class, begins, name, operand, past, sign, word};
 use crate::tree::{JsFile, JsStmt};
@@ -13,7 +13,7 @@ use sqlite_items::Items;
 use std::alloc::{AllocError, Global};
 
 /// Why there is no tree.
-#[derive(Clone, Copy, Debug, Drop)]
+#[derive(Clone, Copy, Debug, PartialEq, Eq)]
 pub enum JsFault {
     /// No tree has the bytes as a spelling. The offset is 0.
     NotInProfile { at: u64 },
@@ -32,6 +32,13 @@ impl From<AllocError> for JsFault {
     }
 }
 
+/// Where these last bytes of a file of `size` bytes begin.
+fn place_of(size: usize, bytes: &[u8]) -> u64
+    ensures { result ≡ size - length bytes.now }
+{
+    size.saturating_sub(bytes.len()) as u64
+}
+
 /// `let a0$ = left + right;` in a file of `size` bytes, behind `lets` other lets.
 #[tactic(auto, unfolding(crate::specs::Reader::let_statement))]
 fn let_statement(size: usize, lets: u64, bytes: &[u8]) -> Option<(JsStmt, &[u8])>
@@ -44,7 +51,7 @@ fn let_statement(size: usize, lets: u64, bytes: &[u8]) -> Option<(JsStmt, &[u8])
     let after = sign(after, b'+')?;
     let (right, after) = operand(after)?;
     let rest = sign(after, b';')?;
-    let at = size.saturating_sub(bytes.len()) as u64;
+    let at = place_of(size, bytes);
     Some((JsStmt::Let { at, left, right }, rest))
 }
 
@@ -63,7 +70,7 @@ fn print_statement(size: usize, bytes: &[u8]) -> Option<(JsStmt, &[u8])>
     let after = sign(after, b')')?;
     let after = sign(after, b')')?;
     let rest = sign(after, b';')?;
-    let at = size.saturating_sub(bytes.len()) as u64;
+    let at = place_of(size, bytes);
     Some((JsStmt::Print { at, value }, rest))
 }
 
@@ -177,5 +184,4 @@ pub fn read_file(alloc: Global, bytes: &[u8]) -> Result<JsFile, JsFault>
 /// A law: bytes have at most one tree.
 pub fn one_tree()
     ensures { OneTree }
-{
-}
+{}

@@ -30,8 +30,7 @@ pub enum Turn {
 /// A law: the runs of each list of files begin with nothing printed, print at most one text a step, and keep their end.
 pub fn runs_are_of_a_meaning()
     ensures { (files : List NamedTree) (order : List ℕ) → IsMeaning (js files order) }
-{
-}
+{}
 
 fn value_of(values: &[u64], operand: Operand) -> Option<u64>
     ensures { result ≡ value_of values.now operand }

@@ -7,7 +7,7 @@ use sqlite_items::Items;
 pub const MAX_NUMBER: u64 = 9007199254740991;
 
 /// What is added or printed.
-#[derive(Clone, Copy, Debug)]
+#[derive(Clone, Copy, Debug, PartialEq, Eq)]
 pub enum Operand {
     /// A whole number.
     Digits(u64),
@@ -16,7 +16,7 @@ pub enum Operand {
 }
 
 /// A statement; `at` is the offset in bytes of its first token in the file.
-#[derive(Clone, Copy, Debug)]
+#[derive(Clone, Copy, Debug, PartialEq, Eq)]
 pub enum JsStmt {
     /// `let a0$ = left + right;`, where the name has as its number how many lets stand before it.
     Let {
@@ -25,7 +25,10 @@ pub enum JsStmt {
         right: Operand,
     },
     /// `host$.print(String(value));`
-    Print { at: u64, value: Operand },
+    Print {
+        at: u64,
+        value: Operand,
+    },
 }
 
 /// The statements of a file, in order.

@@ -7,6 +7,8 @@
 
 pub mod disk;
 pub mod memory;
+#[cfg(test)]
+mod tests;
 pub mod traits;
 
 pub use disk::{DiskSink, DiskSource};

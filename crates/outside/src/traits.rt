@@ -4,6 +4,7 @@ ghost use Rattle.outside.specs.Outside.{Held, HasCause, ReadCause, ReadTells, Wi
 
 use code_units::Bytes;
 use std::alloc::Global;
+use thiserror::Error;
 
 /// What a read answers.
 #[derive(Debug, Drop)]
@@ -36,7 +37,8 @@ pub trait Source {
 }
 
 /// A call of a sink failed, and its count of faults rose.
-#[derive(Clone, Copy, Debug, PartialEq, Eq)]
+#[derive(Clone, Copy, Debug, PartialEq, Eq, Error)]
+#[error("the sink failed")]
 pub struct SinkFailed;
 
 /// Where files and text go. No call takes memory of the compiler.

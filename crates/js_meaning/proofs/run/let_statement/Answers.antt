@@ -1,7 +1,7 @@
-use Rattle.std.proofs.Common.{◌≡◌, ◌<◌, ◌-◌, ◌++◌, ◌∷◌, [], Some, None, sym, ap, ◌∙◌, arith}
+use Rattle.std.proofs.Common.{◌≡◌, ◌-◌, Some, None, sym, ap, ◌∙◌, arith}
 use Rattle.meanings.specs.Act.{Fin}
 use Rattle.js_meaning.specs.Meaning.{Normal, value_of}
-use Rattle.js_meaning.proofs.Running.{no_step, left_absent, right_absent, sum_in_range, sum_leaves, sum_declared}
+use Rattle.js_meaning.proofs.Running.{no_step, left_absent, right_absent, sum_leaves, sum_declared}
 use Rattle.js_meaning.proofs.run.let_statement.Goals as goal
 
 pub returns-then-steps-eq0 : goal.returns-then-steps-eq0

@@ -1,6 +1,6 @@
-use Rattle.std.proofs.Common.{◌≡◌, ◌<◌, ◌-◌, ◌++◌, ◌∷◌, [], Some, None, sym, ap, ◌∙◌, arith}
+use Rattle.std.proofs.Common.{◌-◌, ◌++◌, ◌∷◌, [], sym, ap, ◌∙◌, arith}
 use Rattle.meanings.specs.Act.{Fin}
-use Rattle.js_meaning.specs.Meaning.{Normal, value_of}
+use Rattle.js_meaning.specs.Meaning.{Normal}
 use Rattle.js_meaning.proofs.Running.{no_step, print_absent, print_spent, print_printed}
 use Rattle.js_meaning.proofs.run.print_statement.Goals as goal
 

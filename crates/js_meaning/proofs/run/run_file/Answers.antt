@@ -1,14 +1,13 @@
-use Rattle.std.proofs.Common.{◌≡◌, ◌<◌, ◌≤◌, ◌+◌, ◌-◌, [], drop, get_or, length, sym, ap, ◌∙◌, subst, arith}
+use Rattle.std.proofs.Common.{◌≡◌, ◌<◌, ◌≤◌, ◌-◌, [], length, sym, ap, ◌∙◌, arith}
 use Rattle.code_units.specs.declared.ends.RunEnd.{RunEnd}
 use Rattle.code_units.specs.declared.ends.End.TheVariants as ends
-use Rattle.meanings.specs.Act.{ResOf, Fin, Spent, Cut, Left, Stuck, means}
+use Rattle.meanings.specs.Act.{Fin, Spent, Cut, Left, Stuck}
 use Rattle.meanings.specs.Ends.{run_end_of}
 use Rattle.js_meaning.specs.declared.tree.Operand.TheVariants.{Digits}
-use Rattle.js_meaning.specs.declared.tree.JsStmt.{JsStmt}
 use Rattle.js_meaning.specs.declared.tree.JsStmt.TheVariants.{Let}
-use Rattle.js_meaning.specs.Meaning.{Js, Normal, Returned, body}
+use Rattle.js_meaning.specs.Meaning.{Normal, Returned}
 use Rattle.js_meaning.specs.Runner.{turned}
-use Rattle.js_meaning.proofs.Running.{alone, run_few, run_stops, run_returns, return_spent, return_done, body_next}
+use Rattle.js_meaning.proofs.Running.{run_few, run_stops, run_returns, return_spent, return_done, body_next}
 use Rattle.js_meaning.proofs.run.run_file.Goals as goal
 use Rattle.js_meaning.proofs.run.run_file.Goals.{then-left-eq0, else-left-eq0}
 
@@ -51,11 +50,12 @@ returns c =
     let enough : 2 ≤ c.args.steps = omega arith in
     let all : length c.args.statements.now ≤ c.loop-stmt.stmt-index = omega arith in
     elim c.if-left-eq0.branch [
-      then-left-eq0 w ↦
-        ap (λ e. record { output = c.loop-stmt.output; end = e }) w.end-is
-        ∙ sym (ap run_end_of (run_returns c.args.file c.args.statements.now c.args.steps c.loop-stmt.output c.loop-stmt.values c.loop-stmt.stmt-index c.loop-stmt.left (Spent c.loop-stmt.output) enough all c.loop-stmt.invariant
-        (return_spent c.loop-stmt.values c.loop-stmt.left c.loop-stmt.output w.if-left-eq0.true)))
-    | else-left-eq0 w ↦
-        ap (λ e. record { output = c.loop-stmt.output; end = e }) w.end-is
-        ∙ sym (ap run_end_of (run_returns c.args.file c.args.statements.now c.args.steps c.loop-stmt.output c.loop-stmt.values c.loop-stmt.stmt-index c.loop-stmt.left (Fin Returned c.loop-stmt.values (c.loop-stmt.left - 1) c.loop-stmt.output) enough all c.loop-stmt.invariant
-        (return_done c.loop-stmt.values c.loop-stmt.left c.loop-stmt.output (omega (arith, w.if-left-eq0.false))))) ]
+      | then-left-eq0 w ↦
+          ap (λ e. record { output = c.loop-stmt.output; end = e }) w.end-is
+          ∙ sym (ap run_end_of (run_returns c.args.file c.args.statements.now c.args.steps c.loop-stmt.output c.loop-stmt.values c.loop-stmt.stmt-index c.loop-stmt.left (Spent c.loop-stmt.output) enough all c.loop-stmt.invariant
+          (return_spent c.loop-stmt.values c.loop-stmt.left c.loop-stmt.output w.if-left-eq0.true)))
+      | else-left-eq0 w ↦
+          ap (λ e. record { output = c.loop-stmt.output; end = e }) w.end-is
+          ∙ sym (ap run_end_of (run_returns c.args.file c.args.statements.now c.args.steps c.loop-stmt.output c.loop-stmt.values c.loop-stmt.stmt-index c.loop-stmt.left (Fin Returned c.loop-stmt.values (c.loop-stmt.left - 1) c.loop-stmt.output) enough all c.loop-stmt.invariant
+          (return_done c.loop-stmt.values c.loop-stmt.left c.loop-stmt.output (omega (arith, w.if-left-eq0.false)))))
+    ]

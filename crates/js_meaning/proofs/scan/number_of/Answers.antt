@@ -1,6 +1,6 @@
-use Rattle.std.proofs.Common.{◌≡◌, ◌<◌, ◌^◌, ℕ, List, refl, sym, ap, ◌∙◌, subst}
+use Rattle.std.proofs.Common.{◌≡◌, ◌<◌, ◌^◌, sym, ap, ◌∙◌, subst}
 use Rattle.std.specs.Fmt.{decimal}
-use Rattle.std.specs.Str.{IsAscii, IsUtf8}
+use Rattle.std.specs.Str.{IsAscii}
 use Rattle.std.proofs.lemmas.Str.{IsUtf8-from_ascii}
 use Rattle.std.proofs.lemmas.Fmt.{IsAscii-decimal, parse-decimal}
 use Rattle.js_meaning.specs.Scanner as spec
@@ -19,7 +19,7 @@ returns-in-Err-parse c =
 pub returns-then-eq : goal.returns-then-eq
 returns-then-eq c =
     let written : decimal c.in-Ok-parse.number ≡ c.args.text.now =
-        sym c.format.ensures.text ∙ sym c.as_bytes.ensures.value ∙ bytes_same _ _ (sym c.eq.ensures ∙ c.if-eq.true) in
+    sym c.format.ensures.text ∙ sym c.as_bytes.ensures.value ∙ bytes_same _ _ (sym c.eq.ensures ∙ c.if-eq.true) in
     let value = c.in-Ok-parse.ensures.value.0 in
     let small : c.in-Ok-parse.number < 2 ^ 64 = subst (λ n. n < 2 ^ 64) (sym value.1) value.0.1 in
     sym (number_found c.in-Ok-parse.number small) ∙ ap spec.number_of written
