@@ -1,10 +1,10 @@
 //! A source and a sink in memory. They tell all that they hold, and fail at the calls whose numbers a list has.
-ghost use Rattle.std.specs.Prelude.{◌≡◌, ◌≢◌, ◌↔◌, ◌+◌, ◌-◌, ◌≤◌, ◌<◌, ◌++◌, [], ◌∷◌, length, Some, None, take, IsTrue, IsOk, IfOk, MatchOption, OnErr, OnOk, All, Contains, vec_len, vec_capacity};
+ghost use Rattle.std.specs.Prelude.{◌≡◌, ◌≢◌, ◌↔◌, ◌+◌, ◌-◌, ◌≤◌, ◌<◌, ◌++◌, [], ◌∷◌, length, Some, None, suc, take, drop, IsTrue, IsOk, IfOk, MatchOption, IsSome, IfSome, OnSome, IfNone, OnErr, OnOk, Contains, vec_len, vec_capacity};
 ghost use Rattle.code_units.specs.Text.{units_of};
 ghost use Rattle.outside.specs.InMemory.{held_in, one_more, LetsPut, LetsSay};
 ghost use Rattle.outside.specs.Outside.{HasCause, Puts, OthersStay, AddsFront, ReadCause, ReadTells, WithinLimit};
 ghost use Rattle.outside.specs.Places.{IsFirstOf};
-ghost use Rattle.outside.specs.Room.{HaveRoom};
+ghost use Rattle.outside.specs.Room.{AreSmall, IsWide, Serve, room_at};
 ghost use Rattle.outside.specs.declared.traits.Read.TheVariants.{Failed};
 
 use crate::traits::{Read, Sink, SinkFailed, Source};
@@ -111,17 +111,18 @@ fn front(alloc: Global, bytes: &[u8], limit: u64) -> Result<Bytes, AllocError>
     Bytes::from_slice(alloc, &bytes[..count])
 }
 
-// Room for the name and the content of a file.
+// Room for a name and a content of `room` bytes each.
 #[derive(Debug, Drop)]
 struct Spare {
+    room: usize,
     name: Vec<u16>,
     bytes: Vec<u8>,
 }
 
 /// A sink in memory.
 ///
-/// It takes all its memory when it is made: the text said and each file that it may yet put have room for all the
-/// bytes that it has left.
+/// It takes all its memory when it is made. The k-th of its spare files, counted from 1, holds the k-th part of the
+/// bytes, and a put takes the smallest one that is large enough: so each put within the room finds one.
 #[derive(Debug, Drop)]
 pub struct MemSink {
     alloc: Global,
@@ -220,11 +221,10 @@ impl Sink for MemSink {
             self.faults = self.faults.saturating_add(1);
             return Err(SinkFailed);
         }
-        let Some(spare) = self.spares.pop() else {
+        let Some(spare) = take_spare(&mut self.spares, &mut self.room, size) else {
             self.faults = self.faults.saturating_add(1);
             return Err(SinkFailed);
         };
-        self.room -= size;
         let file = filled(self.alloc, spare, name, bytes);
         store(&mut self.files, file, name);
         Ok(())
@@ -242,24 +242,65 @@ impl Sink for MemSink {
             return Err(SinkFailed);
         }
         self.room -= bytes.len();
-        let _ = self.said.extend_from_slice(bytes);
+        extend_within(&mut self.said, bytes);
         Ok(())
     }
 }
 
-// So many spare files, each with room for so many bytes of a name and of content.
+// So many spare files, which hold so many bytes, half of them, a third of them, and so on.
 fn spare_files(alloc: Global, count: u32, room: usize) -> Result<Vec<Spare>, AllocError>
     ensures len { IfOk result (λ spares. vec_len spares ≡ count) }
-    ensures room { IfOk result (λ spares. HaveRoom room spares.items) }
+    ensures serve { IfOk result (λ spares. Serve room 0 spares.items) }
 {
     let mut spares = Vec::with_capacity(alloc, count as usize)?;
     while spares.len() < count as usize {
-        spares.push(Spare {
-            name: Vec::with_capacity(alloc, room)?,
-            bytes: Vec::with_capacity(alloc, room)?,
-        })?;
+        let part = room / (spares.len() + 1);
+        let spare = spare_file(alloc, part)?;
+        spares.push(spare)?;
     }
     Ok(spares)
+}
+
+fn spare_file(alloc: Global, room: usize) -> Result<Spare, AllocError>
+    ensures { IfOk result (λ spare. IsWide spare × (spare.room ≡ room)) }
+{
+    let name = Vec::with_capacity(alloc, room)?;
+    let bytes = Vec::with_capacity(alloc, room)?;
+    Ok(Spare { room, name, bytes })
+}
+
+// The place of the last spare file that holds so many bytes.
+fn last_wide(spares: &[Spare], size: usize) -> Option<usize>
+    ensures { MatchOption result (AreSmall size spares.now) (λ i. (i < length spares.now) × (size ≤ room_at spares.now i) × AreSmall size (drop (suc i) spares.now)) }
+{
+    let mut i = spares.len();
+    while i > 0 {
+        i -= 1;
+        if size <= spares[i].room {
+            return Some(i);
+        }
+    }
+    None
+}
+
+// Takes so many bytes of the room, and a spare file that holds them.
+fn take_spare(spares: &mut Vec<Spare>, room: &mut usize, size: usize) -> Option<Spare>
+    requires within { size ≤ room.old }
+    requires serve { Serve room.old 0 spares.old.items }
+    ensures found { IsSome result ↔ (0 < vec_len spares.old) }
+    ensures wide { IfSome result (λ spare. (size ≤ vec_capacity spare.name) × (size ≤ vec_capacity spare.bytes)) }
+    ensures serve { OnSome result (Serve room.new 0 spares.new.items) }
+    ensures len { OnSome result (vec_len spares.new + 1 ≡ vec_len spares.old) }
+    ensures room { OnSome result (room.new + size ≡ room.old) }
+    ensures unchanged { IfNone result ((spares.new ≡ spares.old) × (room.new ≡ room.old)) }
+{
+    match last_wide(spares.as_slice(), size) {
+        Some(i) => {
+            *room -= size;
+            Some(spares.remove(i))
+        }
+        None => None,
+    }
 }
 
 // The file of this name and these bytes, in the room of a spare one.
@@ -272,6 +313,7 @@ fn filled(alloc: Global, spare: Spare, name: &str, bytes: &[u8]) -> NamedFile
     let Spare {
         name: mut units,
         bytes: mut content,
+        ..
     } = spare;
     units.clear();
     let _ = push_units(&mut units, name);
@@ -295,6 +337,16 @@ fn store(files: &mut Vec<NamedFile>, file: NamedFile, name: &str)
         Some(i) => files[i] = file,
         None => push_within(files, file),
     }
+}
+
+// Adds bytes behind all others where there is room for them.
+fn extend_within(said: &mut Vec<u8>, bytes: &[u8])
+    requires { vec_len said.old + length bytes.now ≤ vec_capacity said.old }
+    ensures items { said.new.items ≡ said.old.items ++ bytes.now }
+    ensures len { vec_len said.new ≡ vec_len said.old + length bytes.now }
+    ensures capacity { vec_capacity said.old ≤ vec_capacity said.new }
+{
+    let _ = said.extend_from_slice(bytes);
 }
 
 // Adds a file behind all others where there is room for it.

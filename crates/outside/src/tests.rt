@@ -95,6 +95,19 @@ fn sink_in_memory(rt: HostRuntime) -> Result<(), Fail> {
 }
 
 #[test]
+fn each_put_within_the_room_finds_its_place(rt: HostRuntime) -> Result<(), Fail> {
+    let alloc = rt.alloc();
+    let none = NumberList::new(alloc);
+    let mut sink = MemSink::new(alloc, Files::new(alloc), 4, 12, none)?;
+    assert_eq!(rt; sink.put("a", b""), Ok(()));
+    assert_eq!(rt; sink.put("b", b"1"), Ok(()));
+    assert_eq!(rt; sink.put("c", b"1234567"), Ok(()));
+    assert_eq!(rt; sink.put("d", b"1"), Err(SinkFailed), "one byte is left");
+    assert_eq!(rt; sink.put("d", b""), Ok(()));
+    Ok(())
+}
+
+#[test]
 fn real_files(rt: HostRuntime) -> Result<(), Fail> {
     let name = "outside_real_files.tmp";
     let alloc = rt.alloc();

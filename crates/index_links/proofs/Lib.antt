@@ -1,0 +1,3 @@
+pub mod Nodes
+pub mod Threads
+pub mod Calls

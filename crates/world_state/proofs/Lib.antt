@@ -1,0 +1,3 @@
+pub mod WorldFacts
+pub mod Absent
+pub mod SlotOrder
