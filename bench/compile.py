@@ -35,7 +35,22 @@ def one_sum(number):
     return head + body + " " * blanks + tail
 
 
+def all_forms():
+    """A program of SIZE bytes with all forms and thousands of names, each used near and far."""
+    head, tail = "main(){\n", "}\n"
+    parts, size, i = [], len(head) + len(tail), 0
+    while True:
+        part = f"var a{i}={i}*2-1;print(a{i}+3*a{i // 2});var t{i}='text {i}.';print(t{i // 2});\n"
+        if size + len(part) > SIZE:
+            break
+        parts.append(part)
+        size += len(part)
+        i += 1
+    return head + "".join(parts) + " " * (SIZE - size) + tail
+
+
 PROGRAMS = {
+    "all forms": all_forms(),
     "short sums": fill("  print(1 + 20 + 300);\n"),
     "one long sum": one_sum("1"),
     "prints alone": fill("print(7);"),

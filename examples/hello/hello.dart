@@ -1,4 +1,7 @@
 main() {
-  print(1 + 2);
-  print(40 + 1 + 1);
+  var hello = 'Hello, world!';
+  var answer = 6 * 7;
+  print(hello);
+  print(answer);
+  print(answer * answer - 1);
 }

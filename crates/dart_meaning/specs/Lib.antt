@@ -1,6 +1,7 @@
 pub mod Tokens
 pub mod Program
 pub mod Meaning
+pub mod Scope
 pub mod Scanner
-pub mod Parser
+pub mod Reader
 pub mod Runner

@@ -1,14 +1,26 @@
-//! The first programs: what they are, and what they mean.
+//! The first programs: what they are, how they are read, and what they mean.
 //!
-//! A first program is `main ( ) {`, statements, `}`; each statement is `print ( e ) ;`, and an `e` is whole numbers
-//! joined by `+`.
+//! A first program is `main ( ) {`, statements, `}`. A statement is `print ( e ) ;` or `var name = e ;`. An `e` is a
+//! text, or whole numbers and names with `+`, `-` and `*` between them.
+//!
+//! - [`program`]: programs.
+//! - [`scan`]: one token at a time.
+//! - [`names`]: the names that are declared so far.
+//! - [`read`]: the program of a file.
+//! - [`run`]: the run of a program.
 #![tactic(auto)]
 
-pub mod program;
-pub mod run;
+mod names;
+mod program;
+mod read;
+mod run;
+mod scan;
+
+pub use program::{
+    Addend, Expression, MAX_NUMBER, Operand, Product, Program, Sign, Statement, Sum,
+};
+pub use read::{a_file_has_one_program, read_program};
+pub use run::{run_first, runs_are_of_a_meaning};
+
 #[cfg(test)]
 mod tests;
-pub mod tokens;
-
-pub use program::{Program, Sum, a_file_has_one_program, read_program};
-pub use run::{run_first, runs_are_of_a_meaning};

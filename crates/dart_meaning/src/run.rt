@@ -1,19 +1,29 @@
 //! Runs a first program, with a bound on its steps.
-ghost use Rattle.std.specs.Prelude.{◌≡◌, ◌+◌, List, ℕ, Some, None, nat_le, if◌then◌else◌, IfOk, MatchOption};
-ghost use Rattle.std.specs.Fmt.{decimal};
-ghost use Rattle.meanings.specs.Act.{fin, sub, means};
+
+ghost use Rattle.std.specs.Prelude.{◌≡◌, ◌+ℤ◌, ◌-ℤ◌, ◌*ℤ◌, [], ◌∷◌, ◌++◌, List, ℕ, ℤ, map, IfOk, Some, None, MatchOption};
+ghost use Rattle.std.specs.Option.{option_map};
 ghost use Rattle.meanings.specs.Runs.{IsMeaning};
 ghost use Rattle.meanings.specs.Ends.{run_end_of};
-ghost use Rattle.dart_meaning.specs.declared.program.Sum.{Sum};
+ghost use Rattle.dart_meaning.specs.declared.program.Statement.{Statement};
+ghost use Rattle.dart_meaning.specs.Program as program;
 ghost use Rattle.dart_meaning.specs.Program.{IsProgram};
-ghost use Rattle.dart_meaning.specs.Meaning.{First, Statement, total_from, dart};
-ghost use Rattle.dart_meaning.specs.Runner.{turned};
+ghost use Rattle.dart_meaning.specs.Meaning as meaning;
+ghost use Rattle.dart_meaning.specs.Meaning.{dart};
+ghost use Rattle.dart_meaning.specs.Runner as spec;
+ghost use Rattle.dart_meaning.specs.Runner.{datum_of, turned};
 
-use crate::program::{Sum, read_program};
-use crate::tokens::MAX_NUMBER;
+use crate::program::{Addend, Expression, MAX_NUMBER, Operand, Product, Sign, Statement, Sum};
+use crate::read::{read_program, text_of};
 use code_units::{End, Lines, RunEnd, Text};
 use itoa::Buffer;
 use std::alloc::{AllocError, Global};
+
+/// A value: a whole number, which may have any `u64` as its digits; or the units of a text of the program.
+#[derive(Clone, Copy, Debug)]
+pub enum Value<'a> {
+    Whole(i128),
+    Letters(&'a [u16]),
+}
 
 /// What a statement comes to: the steps that are left, or how it ended the run.
 #[derive(Clone, Copy, Debug)]
@@ -23,62 +33,222 @@ pub enum Turn {
     Leaves,
 }
 
-/// The runs of each first program begin with nothing printed, print at most one text a step, and keep their end.
+/// A law: the runs of each first program begin with nothing printed, print at most one text a step, and keep their end.
 pub fn runs_are_of_a_meaning()
-    ensures { (program : List Sum) (order : List ℕ) → IsMeaning (dart program order) }
+    ensures { (program : List Statement) (order : List ℕ) → IsMeaning (dart program order) }
 {}
 
-// The sum, or None where it is above the greatest whole number.
-fn sum_of(total: u64, number: u64) -> Option<u64>
-    ensures { result ≡ (if nat_le (total + number) MAX_NUMBER then Some (total + number) else None) }
+/// The number, unless it is farther than 2^53 - 1 from 0.
+fn in_range(number: i128) -> Option<i128>
+    ensures { result ≡ meaning.in_range number }
 {
-    let sum = total.checked_add(number)?;
-    if sum <= MAX_NUMBER { Some(sum) } else { None }
+    if number.unsigned_abs() <= u128::from(MAX_NUMBER) {
+        Some(number)
+    } else {
+        None
+    }
 }
 
-// The total, or None where a sum is above the greatest whole number.
-fn total_from(first: u64, more: &[u64]) -> Option<u64>
-    ensures { result ≡ total_from first more.now }
+#[tactic(auto, using(crate::proofs::Numbers::too_wide))]
+fn times(total: i128, factor: i128) -> Option<i128>
+    ensures { result ≡ meaning.in_range (total *ℤ factor) }
+{
+    let product = total.checked_mul(factor)?;
+    in_range(product)
+}
+
+#[tactic(auto, using(crate::proofs::Numbers::too_wide))]
+fn plus(total: i128, value: i128) -> Option<i128>
+    ensures { result ≡ meaning.in_range (total +ℤ value) }
+{
+    let sum = total.checked_add(value)?;
+    in_range(sum)
+}
+
+#[tactic(auto, using(crate::proofs::Numbers::too_wide))]
+fn minus(total: i128, value: i128) -> Option<i128>
+    ensures { result ≡ meaning.in_range (total -ℤ value) }
+{
+    let difference = total.checked_sub(value)?;
+    in_range(difference)
+}
+
+fn signed(sign: Sign, total: i128, value: i128) -> Option<i128>
+    ensures { result ≡ meaning.in_range (meaning.signed sign total value) }
+{
+    match sign {
+        Sign::Plus => plus(total, value),
+        Sign::Minus => minus(total, value),
+    }
+}
+
+fn operand_value<'a>(values: &[Value<'a>], operand: Operand) -> Option<Value<'a>>
+    ensures { option_map datum_of result ≡ meaning.operand_value (map datum_of values.now) operand }
+{
+    match operand {
+        Operand::Number(number) => Some(Value::Whole(i128::from(number))),
+        Operand::Variable(place) => values.get(place as usize).copied(),
+    }
+}
+
+fn number_in(values: &[Value], operand: Operand) -> Option<i128>
+    ensures { result ≡ meaning.number_in (meaning.operand_value (map datum_of values.now) operand) }
+{
+    match operand_value(values, operand) {
+        Some(Value::Whole(number)) => Some(number),
+        Some(Value::Letters(_)) => None,
+        None => None,
+    }
+}
+
+fn product_from(values: &[Value], first: i128, operands: &[Operand]) -> Option<i128>
+    ensures { result ≡ meaning.product_from (map datum_of values.now) first operands.now }
 {
     let mut total = first;
-    for number in more {
-        total = sum_of(total, *number)?;
+    for operand in operands {
+        let factor = number_in(values, *operand)?;
+        total = times(total, factor)?;
     }
     Some(total)
 }
 
-// The decimal digits of a number, as a text.
-fn decimal_text(alloc: Global, number: u64) -> Result<Text, AllocError>
-    ensures { IfOk result (λ text. text ≡ decimal number) }
+fn product_value(values: &[Value], product: &Product) -> Option<i128>
+    ensures { result ≡ meaning.product_value (map datum_of values.now) product.now }
 {
-    let mut buffer = Buffer::new();
-    let mut text = Text::new(alloc);
-    for digit in buffer.format(number).as_bytes() {
-        text.push(u16::from(*digit))?;
-    }
-    Ok(text)
+    let first = number_in(values, product.first)?;
+    product_from(values, first, product.rest.as_slice())
 }
 
-// One step for the statement, one for its expression, and one for the call of print.
-fn statement(alloc: Global, sum: &Sum, steps: u64, output: &mut Lines) -> Result<Turn, AllocError>
-    ensures { IfOk result (λ turn. means First (sub (Statement sum.now) tt fin) steps output.old ≡ turned output.new turn) }
+fn sum_from(values: &[Value], first: i128, addends: &[Addend]) -> Option<i128>
+    ensures { result ≡ meaning.sum_from (map datum_of values.now) first addends.now }
+{
+    let mut total = first;
+    for addend in addends {
+        let value = product_value(values, &addend.product)?;
+        total = signed(addend.sign, total, value)?;
+    }
+    Some(total)
+}
+
+fn sum_value(values: &[Value], sum: &Sum) -> Option<i128>
+    ensures { result ≡ meaning.sum_value (map datum_of values.now) sum.now }
+{
+    let first = product_value(values, &sum.first)?;
+    sum_from(values, first, sum.rest.as_slice())
+}
+
+/// The operand of a sum that has no operator.
+fn lone(sum: &Sum) -> Option<Operand>
+    ensures { result ≡ program.lone sum.now }
+{
+    if sum.first.rest.as_slice().is_empty() && sum.rest.as_slice().is_empty() {
+        Some(sum.first.first)
+    } else {
+        None
+    }
+}
+
+fn lone_or_sum<'a>(values: &[Value<'a>], sum: &Sum) -> Option<Value<'a>>
+    ensures { option_map datum_of result ≡ meaning.lone_or_sum (map datum_of values.now) sum.now (program.lone sum.now) }
+{
+    match lone(sum) {
+        Some(operand) => operand_value(values, operand),
+        None => {
+            let number = sum_value(values, sum)?;
+            Some(Value::Whole(number))
+        }
+    }
+}
+
+fn expression_value<'a>(values: &[Value<'a>], expression: &'a Expression) -> Option<Value<'a>>
+    ensures { option_map datum_of result ≡ meaning.expression_value (map datum_of values.now) expression.now }
+{
+    match expression {
+        Expression::Text(text) => Some(Value::Letters(text.as_slice())),
+        Expression::Sum(sum) => lone_or_sum(values, sum),
+    }
+}
+
+fn decimal_text(alloc: Global, number: i128) -> Result<Text, AllocError>
+    ensures { IfOk result (λ text. text ≡ meaning.text_of (meaning.Whole number)) }
+{
+    let mut buffer = Buffer::new();
+    text_of(alloc, buffer.format(number).as_bytes())
+}
+
+fn value_text(alloc: Global, value: Value) -> Result<Text, AllocError>
+    ensures { IfOk result (λ text. text ≡ meaning.text_of (datum_of value.entry)) }
+{
+    match value {
+        Value::Whole(number) => decimal_text(alloc, number),
+        Value::Letters(units) => Text::from_slice(alloc, units),
+    }
+}
+
+/// One step for the statement, one for its expression, and one for the call of print.
+fn print_statement(
+    alloc: Global,
+    expression: &Expression,
+    steps: u64,
+    values: &[Value],
+    output: &mut Lines,
+) -> Result<Turn, AllocError>
+    ensures { IfOk result (λ turn. turned (map datum_of values.now) output.new turn ≡ spec.print_turn expression.now (map datum_of values.now) steps output.old) }
 {
     if steps < 2 {
         return Ok(Turn::Spends);
     }
-    let total = match total_from(sum.first, sum.rest.as_slice()) {
-        None => return Ok(Turn::Leaves),
-        Some(total) => total,
+    let Some(value) = expression_value(values, expression) else {
+        return Ok(Turn::Leaves);
     };
     if steps == 2 {
         return Ok(Turn::Spends);
     }
-    let text = decimal_text(alloc, total)?;
+    let text = value_text(alloc, value)?;
     output.push(text)?;
     Ok(Turn::Next(steps - 3))
 }
 
-fn run_program(alloc: Global, program: &[Sum], steps: u64) -> Result<RunEnd, AllocError>
+/// One step for the statement, and one for its expression.
+fn declare_statement<'a>(
+    expression: &'a Expression,
+    steps: u64,
+    values: &mut Vec<Value<'a>>,
+) -> Result<Turn, AllocError>
+    ensures { (output : List (List ℕ)) → IfOk result (λ turn. turned (map datum_of values.new.items) output turn ≡ spec.declare_turn expression.now (map datum_of values.old.items) steps output) }
+{
+    if steps < 2 {
+        return Ok(Turn::Spends);
+    }
+    let Some(value) = expression_value(values.as_slice(), expression) else {
+        return Ok(Turn::Leaves);
+    };
+    values.push(value)?;
+    Ok(Turn::Next(steps - 2))
+}
+
+fn statement<'a>(
+    alloc: Global,
+    statement: &'a Statement,
+    steps: u64,
+    values: &mut Vec<Value<'a>>,
+    output: &mut Lines,
+) -> Result<Turn, AllocError>
+    ensures { IfOk result (λ turn. turned (map datum_of values.new.items) output.new turn ≡ spec.turn statement.now (map datum_of values.old.items) steps output.old) }
+{
+    match statement {
+        Statement::Print(expression) => print_statement(
+            alloc,
+            expression,
+            steps,
+            values.as_slice(),
+            output,
+        ),
+        Statement::Declare { value, .. } => declare_statement(value, steps, values),
+    }
+}
+
+fn run_program(alloc: Global, program: &[Statement], steps: u64) -> Result<RunEnd, AllocError>
     ensures { IfOk result (λ run. (order : List ℕ) → run ≡ run_end_of (dart program.now order steps)) }
 {
     let mut output = Lines::new(alloc);
@@ -88,9 +258,10 @@ fn run_program(alloc: Global, program: &[Sum], steps: u64) -> Result<RunEnd, All
             end: End::Spent,
         });
     }
+    let mut values = Vec::new(alloc);
     let mut left = steps - 1;
-    for sum in program {
-        match statement(alloc, sum, left, &mut output)? {
+    for item in program {
+        match statement(alloc, item, left, &mut values, &mut output)? {
             Turn::Next(next) => left = next,
             Turn::Spends => {
                 return Ok(RunEnd {
@@ -114,7 +285,7 @@ fn run_program(alloc: Global, program: &[Sum], steps: u64) -> Result<RunEnd, All
 
 /// The run of a file of the first form, of so many steps at most; None exactly where the bytes aren't of this form.
 pub fn run_first(alloc: Global, bytes: &[u8], steps: u64) -> Result<Option<RunEnd>, AllocError>
-    ensures { IfOk result (λ run. MatchOption run ((p : List Sum) → IsProgram bytes.now p → ⊥) (λ run. (p : List Sum) × IsProgram bytes.now p × ((order : List ℕ) → run ≡ run_end_of (dart p order steps)))) }
+    ensures { IfOk result (λ run. MatchOption run ((p : List Statement) → IsProgram bytes.now p → ⊥) (λ run. (p : List Statement) × IsProgram bytes.now p × ((order : List ℕ) → run ≡ run_end_of (dart p order steps)))) }
 {
     let Some(program) = read_program(alloc, bytes)? else {
         return Ok(None);

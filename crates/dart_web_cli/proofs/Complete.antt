@@ -2,7 +2,7 @@
 use Rattle.std.proofs.Common.{◌≡◌, ℕ, ◌<◌, ◌≤◌, List, [], ◌∷◌, length, Option, Some, None, refl, sym, ap, ◌∙◌, subst, inl, inr, arith}
 use Rattle.std.specs.Prelude.{IfSome}
 use Rattle.outside.specs.Outside.{Held}
-use Rattle.dart_meaning.specs.declared.program.Sum.{Sum}
+use Rattle.dart_meaning.specs.declared.program.Statement.{Statement}
 use Rattle.dart_meaning.specs.Program.{IsProgram}
 use Rattle.dart_web_cli.specs.declared.load.Rule.{Rule}
 use Rattle.dart_web_cli.specs.declared.load.Rule.TheVariants.{U1, N2, G1}
@@ -13,7 +13,7 @@ use Rattle.dart_web_cli.specs.Words.{IsCompile, IsNoCommand}
 use Rattle.dart_web_cli.specs.Answers.{IsBroken, IsFine}
 use Rattle.dart_web_cli.specs.TopCall.{Call, Means, HasNoFault, IsOrMemory, IsComplete}
 
-fine_not_broken : (rule : Rule) (files : Held) (entry : List ℕ) (program : List Sum) → IsFine files entry program → IsBroken rule files entry → ⊥
+fine_not_broken : (rule : Rule) (files : Held) (entry : List ℕ) (program : List Statement) → IsFine files entry program → IsBroken rule files entry → ⊥
 fine_not_broken U1 files entry program fine broken = let e : Some fine.content ≡ None = sym fine.held ∙ broken in cc e
 fine_not_broken N2 files entry program fine (content, held, long) =
     let e : Some fine.content ≡ Some content = sym fine.held ∙ held in
@@ -63,7 +63,7 @@ refused call Deep m quiet entry out files rule command holds broken = absurd m
 refused call NotInProfile m quiet entry out files rule command holds broken = absurd m
 refused call Stuck m quiet entry out files rule command holds broken = absurd m
 
-compiled : (call : Call) (status : Status) → Means call status → HasNoFault call → (entry out : List ℕ) (files : Held) (program : List Sum) → IsCompile call.words entry out → call.old.files ≡ Some files → IsFine files entry program → IsOrMemory Fine status
+compiled : (call : Call) (status : Status) → Means call status → HasNoFault call → (entry out : List ℕ) (files : Held) (program : List Statement) → IsCompile call.words entry out → call.old.files ≡ Some files → IsFine files entry program → IsOrMemory Fine status
 compiled call Fine m quiet entry out files program command holds fine = inl refl
 compiled call Refused m quiet entry out files program command holds fine =
     let same = same_entry call.words entry out m.1.entry m.1.out command m.1.command in

@@ -4,7 +4,7 @@ use Rattle.std.specs.Prelude.{IfSome}
 use Rattle.std.proofs.lemmas.List.{length-take, take_all}
 use Rattle.outside.specs.Outside.{Held, ReadTells}
 use Rattle.outside.specs.declared.traits.Read.TheVariants.{Got}
-use Rattle.dart_meaning.specs.declared.program.Sum.{Sum}
+use Rattle.dart_meaning.specs.declared.program.Statement.{Statement}
 use Rattle.dart_meaning.specs.Program.{IsProgram}
 use Rattle.dart_web_cli.specs.declared.load.Rule.TheVariants.{U1, N2, G1}
 use Rattle.dart_web_cli.specs.declared.load.Loaded.{Loaded}
@@ -37,6 +37,6 @@ load_got held entry bytes (Broken N2) read judged =
 load_got held entry bytes (Broken G1) read (short, none) =
     if_some_then held _ _ (λ files r.
     let same = whole r.0 bytes r.2 short in
-    (r.0, r.1, subst (λ b. length b ≤ MAX_FILE) same short, subst (λ b. (p : List Sum) → IsProgram b p → ⊥) same none)) read
+    (r.0, r.1, subst (λ b. length b ≤ MAX_FILE) same short, subst (λ b. (p : List Statement) → IsProgram b p → ⊥) same none)) read
 load_got held entry bytes Failed read judged = tt
 load_got held entry bytes Memory read judged = tt

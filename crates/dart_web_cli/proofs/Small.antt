@@ -1,112 +1,173 @@
--- The numbers of a program that was read are in range, and so are those of its translation.
-use Rattle.std.proofs.Common.{◌≡◌, ℕ, suc, ◌+◌, ◌*◌, ◌^◌, ◌<◌, ◌≤◌, List, [], ◌∷◌, ◌++◌, length, refl, sym, ap, ◌∙◌, subst, arith, length-append}
-use Rattle.dart_meaning.specs.declared.tokens.Token.{Token}
-use Rattle.dart_meaning.specs.declared.tokens.Token.TheVariants.{Main, Print, Number, OpenParen, CloseParen, OpenBrace, CloseBrace, Plus, Semicolon}
-use Rattle.dart_meaning.specs.declared.tokens.TheConstants.{MAX_NUMBER}
+-- The numbers, names and texts of a program that was read are in range, and so are those of its translation.
+use Rattle.std.proofs.Common.{◌≡◌, Bool, true, false, ℕ, suc, ◌+◌, ◌*◌, ◌^◌, ◌<◌, ◌≤◌, List, [], ◌∷◌, ◌++◌, length, refl, sym, ap, ◌∙◌, subst, arith, length-append}
+use Rattle.std.proofs.lemmas.Option.{slice_get_within}
+use Rattle.dart_meaning.specs.declared.program.Operand.{Operand}
+use Rattle.dart_meaning.specs.declared.program.Operand.TheVariants as dart_operands
+use Rattle.dart_meaning.specs.declared.program.Product.{Product}
+use Rattle.dart_meaning.specs.declared.program.Addend.{Addend}
 use Rattle.dart_meaning.specs.declared.program.Sum.{Sum}
-use Rattle.dart_meaning.specs.Tokens.{AreTokens, IsSpelling}
-use Rattle.dart_meaning.specs.Program.{IsProgram, more_tokens, sum_tokens, statements_tokens, tokens_of}
-use Rattle.js_meaning.specs.declared.tree.Operand.{Operand}
-use Rattle.js_meaning.specs.declared.tree.Operand.TheVariants.{Digits, Local}
+use Rattle.dart_meaning.specs.declared.program.Expression.{Expression}
+use Rattle.dart_meaning.specs.declared.program.Expression.TheVariants as expressions
+use Rattle.dart_meaning.specs.declared.program.Statement.{Statement}
+use Rattle.dart_meaning.specs.declared.program.Statement.TheVariants as dart_statements
+use Rattle.dart_meaning.specs.declared.scan.Class.TheVariants as dart_classes
+use Rattle.dart_meaning.specs.Tokens as dart_tokens
+use Rattle.dart_meaning.specs.Tokens.{Token, Word, Number, Quoted, Sign, AreTokens}
+use Rattle.dart_meaning.specs.Program.{Kinds, Names, IsOperand, IsNumeric, AreNumeric, IsProduct, AreAddends, IsSum, IsExpression, is_text, AreWellFormed, factors_tokens, product_tokens, addends_tokens, expression_tokens, statements_tokens, program_tokens, IsProgram}
+use Rattle.js_meaning.specs.declared.tree.Operand.{Operand as JsOperand}
+use Rattle.js_meaning.specs.declared.tree.Operand.TheVariants.{Digits, Operation, Variable, Str}
 use Rattle.js_meaning.specs.declared.tree.JsStmt.{JsStmt}
+use Rattle.js_meaning.specs.declared.scan.Class.TheVariants.{Character}
+use Rattle.js_meaning.specs.Tokens.{AllIn}
 use Rattle.js_meaning.specs.Spelling.{IsInRange, AreInRange}
-use Rattle.dart_web_cli.specs.Translation.{sum_statements, statements_from, file_of}
+use Rattle.dart_web_cli.specs.Translation.{operand_of, print_of, Behind, product_then, addends_then, expression_then, statements_from, file_of}
 
-abbrev SmallTokens : List Token → Type 0
-SmallTokens [] = Unit {0}
-SmallTokens (Number n ∷ tokens) = (n ≤ MAX_NUMBER) × SmallTokens tokens
-SmallTokens (Main ∷ tokens) = SmallTokens tokens
-SmallTokens (Print ∷ tokens) = SmallTokens tokens
-SmallTokens (OpenParen ∷ tokens) = SmallTokens tokens
-SmallTokens (CloseParen ∷ tokens) = SmallTokens tokens
-SmallTokens (OpenBrace ∷ tokens) = SmallTokens tokens
-SmallTokens (CloseBrace ∷ tokens) = SmallTokens tokens
-SmallTokens (Plus ∷ tokens) = SmallTokens tokens
-SmallTokens (Semicolon ∷ tokens) = SmallTokens tokens
+-- How many operators, and how many names, stand in a part of a program.
 
-small_tokens : (tokens : List Token) (bytes : List ℕ) → AreTokens tokens bytes → SmallTokens tokens
-small_tokens [] bytes h = tt
-small_tokens (Number n ∷ tokens) bytes (gap, text, rest, is, blank, spelled, over, more) = (spelled.small, small_tokens tokens rest more)
-small_tokens (Main ∷ tokens) bytes (gap, text, rest, is, blank, spelled, over, more) = small_tokens tokens rest more
-small_tokens (Print ∷ tokens) bytes (gap, text, rest, is, blank, spelled, over, more) = small_tokens tokens rest more
-small_tokens (OpenParen ∷ tokens) bytes (gap, text, rest, is, blank, spelled, over, more) = small_tokens tokens rest more
-small_tokens (CloseParen ∷ tokens) bytes (gap, text, rest, is, blank, spelled, over, more) = small_tokens tokens rest more
-small_tokens (OpenBrace ∷ tokens) bytes (gap, text, rest, is, blank, spelled, over, more) = small_tokens tokens rest more
-small_tokens (CloseBrace ∷ tokens) bytes (gap, text, rest, is, blank, spelled, over, more) = small_tokens tokens rest more
-small_tokens (Plus ∷ tokens) bytes (gap, text, rest, is, blank, spelled, over, more) = small_tokens tokens rest more
-small_tokens (Semicolon ∷ tokens) bytes (gap, text, rest, is, blank, spelled, over, more) = small_tokens tokens rest more
+abbrev addend_operators : List Addend → ℕ
+addend_operators [] = 0
+addend_operators (addend ∷ addends) = length addend.product.rest + suc (addend_operators addends)
 
-abbrev AllSmall : List ℕ → Type 0
-AllSmall [] = Unit {0}
-AllSmall (n ∷ more) = (n ≤ MAX_NUMBER) × AllSmall more
+abbrev operators : Expression → ℕ
+operators (expressions.Text text) = 0
+operators (expressions.Sum sum) = length sum.first.rest + addend_operators sum.rest
 
-abbrev SmallSums : List Sum → Type 0
-SmallSums [] = Unit {0}
-SmallSums (sum ∷ program) = (sum.first ≤ MAX_NUMBER) × AllSmall sum.rest × SmallSums program
+abbrev all_operators : List Statement → ℕ
+all_operators [] = 0
+all_operators (dart_statements.Print value ∷ program) = operators value + all_operators program
+all_operators (dart_statements.Declare name value ∷ program) = operators value + all_operators program
 
-more_small : (more : List ℕ) (tokens : List Token) → SmallTokens (more_tokens more ++ tokens) → AllSmall more × SmallTokens tokens
-more_small [] tokens h = (tt, h)
-more_small (n ∷ more) tokens h = let r = more_small more tokens h.1 in ((h.0, r.0), r.1)
+abbrev all_names : List Statement → ℕ
+all_names [] = 0
+all_names (dart_statements.Print value ∷ program) = all_names program
+all_names (dart_statements.Declare name value ∷ program) = suc (all_names program)
 
-sums_small : (program : List Sum) → SmallTokens (statements_tokens program) → SmallSums program
-sums_small [] h = tt
-sums_small (sum ∷ program) h =
-    let r = more_small sum.rest (CloseParen ∷ Semicolon ∷ statements_tokens program) h.1 in
-    (h.0, r.0, sums_small program r.1)
+-- There are no more of both than tokens, and no more tokens than bytes.
 
--- There are no more lets than tokens, and no more tokens than bytes.
+factors_length : (names : Names) (factors : List Operand) (more : List Token) → length (factors_tokens names factors more) ≡ 2 * length factors + length more
+factors_length names [] more = omega arith
+factors_length names (factor ∷ factors) more = omega (arith, factors_length names factors more)
 
-abbrev lets_of : List Sum → ℕ
-lets_of [] = 0
-lets_of (sum ∷ program) = length sum.rest + lets_of program
+addends_length : (names : Names) (addends : List Addend) (more : List Token) → addend_operators addends + length more ≤ length (addends_tokens names addends more)
+addends_length names [] more = omega arith
+addends_length names (addend ∷ addends) more =
+    let behind : List Token = addends_tokens names addends more in
+    omega (arith, addends_length names addends more, factors_length names addend.product.rest behind)
 
-not_empty : (token : Token) (text : List ℕ) → IsSpelling token text → 1 ≤ length text
-not_empty (Number n) text h = subst (λ t. 1 ≤ length t) (sym h.is) (omega arith)
-not_empty Main text h = subst (λ t. 1 ≤ length t) (sym h) (omega arith)
-not_empty Print text h = subst (λ t. 1 ≤ length t) (sym h) (omega arith)
-not_empty OpenParen text h = subst (λ t. 1 ≤ length t) (sym h) (omega arith)
-not_empty CloseParen text h = subst (λ t. 1 ≤ length t) (sym h) (omega arith)
-not_empty OpenBrace text h = subst (λ t. 1 ≤ length t) (sym h) (omega arith)
-not_empty CloseBrace text h = subst (λ t. 1 ≤ length t) (sym h) (omega arith)
-not_empty Plus text h = subst (λ t. 1 ≤ length t) (sym h) (omega arith)
-not_empty Semicolon text h = subst (λ t. 1 ≤ length t) (sym h) (omega arith)
+expression_length : (names : Names) (value : Expression) (more : List Token) → operators value + length more ≤ length (expression_tokens names value more)
+expression_length names (expressions.Text text) more = omega arith
+expression_length names (expressions.Sum sum) more =
+    let behind : List Token = addends_tokens names sum.rest more in
+    omega (arith, addends_length names sum.rest more, factors_length names sum.first.rest behind)
+
+statements_length : (names : Names) (program : List Statement) → all_operators program + all_names program ≤ length (statements_tokens names program)
+statements_length names [] = omega arith
+statements_length names (dart_statements.Print value ∷ program) =
+    let behind : List Token = Sign 41 ∷ Sign 59 ∷ statements_tokens names program in
+    omega (arith, statements_length names program, expression_length names value behind)
+statements_length names (dart_statements.Declare name value ∷ program) =
+    let behind : List Token = Sign 59 ∷ statements_tokens (names ++ name ∷ []) program in
+    omega (arith, statements_length (names ++ name ∷ []) program, expression_length names value behind)
+
+some_bytes : (class : _) (text : List ℕ) → dart_tokens.AreSome class text → 1 ≤ length text
+some_bytes class [] h = absurd h
+some_bytes class (b ∷ text) h = omega arith
 
 few_tokens : (tokens : List Token) (bytes : List ℕ) → AreTokens tokens bytes → length tokens ≤ length bytes
 few_tokens [] bytes h = omega arith
-few_tokens (token ∷ tokens) bytes (gap, text, rest, is, blank, spelled, over, more) =
-    let shorter = few_tokens tokens rest more in
-    let one = not_empty token text spelled in
-    let whole : length bytes ≡ length gap + (length text + length rest) = ap length is ∙ length-append gap (text ++ rest) ∙ ap (λ n. length gap + n) (length-append text rest) in
-    omega (arith, shorter, one, whole)
+few_tokens (Word text ∷ tokens) bytes (gap, rest, is, some, ends, blank, more) =
+    omega (arith, few_tokens tokens rest more, some_bytes dart_classes.Word text some, ap length is, length-append text (gap ++ rest), length-append gap rest)
+few_tokens (Number n ∷ tokens) bytes (digits, gap, rest, is, some, value, ends, blank, more) =
+    omega (arith, few_tokens tokens rest more, some_bytes dart_classes.Digit digits some, ap length is, length-append digits (gap ++ rest), length-append gap rest)
+few_tokens (Quoted text ∷ tokens) bytes (quote, gap, rest, is, quoted, all, blank, more) =
+    omega (arith, few_tokens tokens rest more, ap length is, length-append text (quote ∷ (gap ++ rest)), length-append gap rest)
+few_tokens (Sign byte ∷ tokens) bytes (gap, rest, is, blank, more) =
+    omega (arith, few_tokens tokens rest more, ap length is, length-append gap rest)
 
-more_length : (more : List ℕ) → length (more_tokens more) ≡ 2 * length more
-more_length [] = refl
-more_length (n ∷ more) = omega (arith, more_length more)
+-- Operands.
 
-few_lets : (program : List Sum) → lets_of program ≤ length (statements_tokens program)
-few_lets [] = omega arith
-few_lets (sum ∷ program) =
-    let behind : List Token = CloseParen ∷ Semicolon ∷ statements_tokens program in
-    omega (arith, few_lets program, more_length sum.rest, length-append (more_tokens sum.rest) behind)
+numeric_in_range : (kinds : Kinds) (operand : Operand) → length kinds ≤ 2 ^ 64 → IsNumeric kinds operand → IsInRange (operand_of operand)
+numeric_in_range kinds (dart_operands.Number n) le h = h
+numeric_in_range kinds (dart_operands.Variable k) le h = omega (arith, slice_get_within kinds k _ h)
 
-sum_in_range : (more : List ℕ) (k : ℕ) (sofar : Operand) (rest : List JsStmt) → IsInRange sofar → AllSmall more → k + length more < 2 ^ 64 → AreInRange (k + length more) rest → AreInRange k (sum_statements k sofar more rest)
-sum_in_range [] k sofar rest a m lt r = let z : k + 0 ≡ k = omega arith in (a, subst (λ k. AreInRange k rest) z r)
-sum_in_range (n ∷ more) k sofar rest a m lt r =
+operand_in_range : (kinds : Kinds) (operand : Operand) → length kinds ≤ 2 ^ 64 → IsOperand kinds operand → IsInRange (operand_of operand)
+operand_in_range kinds (dart_operands.Number n) le h = h
+operand_in_range kinds (dart_operands.Variable k) le h = omega arith
+
+text_in_range : (text : List ℕ) → dart_tokens.AllIn dart_classes.Text text → AllIn Character text
+text_in_range [] h = tt
+text_in_range (b ∷ text) h = (h.0, text_in_range text h.1)
+
+-- The lets of an expression, where what is behind them is in range.
+
+-- what is behind so many operators, with i names before it
+abbrev BehindInRange : ℕ → ℕ → Behind → Type 0
+BehindInRange k i behind = (p : JsOperand) → IsInRange p → AreInRange k i (behind k p)
+
+product_in_range : (factors : List Operand) (k i : ℕ) (sofar : JsOperand) (behind : Behind) (kinds : Kinds) → length kinds ≤ 2 ^ 64 → AreNumeric kinds factors → IsInRange sofar → k + length factors < 2 ^ 64 → BehindInRange (k + length factors) i behind → AreInRange k i (product_then k sofar factors behind)
+product_in_range [] k i sofar behind kinds le h range lt next = let z : k + 0 ≡ k = omega arith in subst (λ k. AreInRange k i (behind k sofar)) z (next sofar range)
+product_in_range (factor ∷ factors) k i sofar behind kinds le h range lt next =
     let here : k < 2 ^ 64 = omega arith in
-    let z : k + suc (length more) ≡ suc k + length more = omega arith in
-    let lt' : suc k + length more < 2 ^ 64 = omega arith in
-    (here, a, m.0, sum_in_range more (suc k) (Local k) rest here m.1 lt' (subst (λ k. AreInRange k rest) z r))
+    let z : k + suc (length factors) ≡ suc k + length factors = omega arith in
+    let lt' : suc k + length factors < 2 ^ 64 = omega arith in
+    (here, range, numeric_in_range kinds factor le h.0, product_in_range factors (suc k) i (Operation k) behind kinds le h.1 here lt' (subst (λ k. BehindInRange k i behind) z next))
 
-statements_in_range : (program : List Sum) (k : ℕ) → SmallSums program → k + lets_of program < 2 ^ 64 → AreInRange k (statements_from k program)
-statements_in_range [] k h lt = tt
-statements_in_range (sum ∷ program) k h lt =
-    let first : k + length sum.rest < 2 ^ 64 = omega arith in
-    let others : k + length sum.rest + lets_of program < 2 ^ 64 = omega arith in
-    sum_in_range sum.rest k (Digits sum.first) _ h.0 h.1 first (statements_in_range program (k + length sum.rest) h.2 others)
+addends_in_range : (addends : List Addend) (k i : ℕ) (sofar : JsOperand) (behind : Behind) (kinds : Kinds) → length kinds ≤ 2 ^ 64 → AreAddends kinds addends → IsInRange sofar → k + addend_operators addends < 2 ^ 64 → BehindInRange (k + addend_operators addends) i behind → AreInRange k i (addends_then k sofar addends behind)
+addends_in_range [] k i sofar behind kinds le h range lt next = let z : k + 0 ≡ k = omega arith in subst (λ k. AreInRange k i (behind k sofar)) z (next sofar range)
+addends_in_range (addend ∷ addends) k i sofar behind kinds le h range lt next =
+    let m = k + length addend.product.rest in
+    let here : m < 2 ^ 64 = omega arith in
+    let z : k + (length addend.product.rest + suc (addend_operators addends)) ≡ suc m + addend_operators addends = omega arith in
+    let lt' : suc m + addend_operators addends < 2 ^ 64 = omega arith in
+    product_in_range addend.product.rest k i (operand_of addend.product.first) _ kinds le h.0.1 (numeric_in_range kinds addend.product.first le h.0.0) here
+    (λ p pr. (here, range, pr, addends_in_range addends (suc m) i (Operation m) behind kinds le h.1 here lt' (subst (λ k. BehindInRange k i behind) z next)))
 
-pub file_in_range : (bytes : List ℕ) (program : List Sum) → length bytes < 2 ^ 64 → IsProgram bytes program → AreInRange 0 (file_of program)
+sum_in_range : (first : Operand) (factors : List Operand) (addends : List Addend) (k i : ℕ) (behind : Behind) (kinds : Kinds) → length kinds ≤ 2 ^ 64 → IsInRange (operand_of first) → AreNumeric kinds factors → AreAddends kinds addends → k + (length factors + addend_operators addends) < 2 ^ 64 → BehindInRange (k + (length factors + addend_operators addends)) i behind → AreInRange k i (product_then k (operand_of first) factors (λ k' product. addends_then k' product addends behind))
+sum_in_range first factors addends k i behind kinds le range hs ha lt next =
+    let here : k + length factors < 2 ^ 64 = omega arith in
+    let z : k + (length factors + addend_operators addends) ≡ k + length factors + addend_operators addends = omega arith in
+    let lt' : k + length factors + addend_operators addends < 2 ^ 64 = omega arith in
+    product_in_range factors k i (operand_of first) _ kinds le hs range here
+    (λ p pr. addends_in_range addends (k + length factors) i p behind kinds le ha pr lt' (subst (λ k. BehindInRange k i behind) z next))
+
+expression_in_range : (value : Expression) (k i : ℕ) (behind : Behind) (kinds : Kinds) → length kinds ≤ 2 ^ 64 → IsExpression kinds value → k + operators value < 2 ^ 64 → BehindInRange (k + operators value) i behind → AreInRange k i (expression_then k value behind)
+expression_in_range (expressions.Text text) k i behind kinds le h lt next = let z : k + 0 ≡ k = omega arith in subst (λ k. AreInRange k i (behind k (Str text))) z (next (Str text) (text_in_range text h))
+expression_in_range (expressions.Sum sum) k i behind kinds le h lt next = by sum.first.first sum.first.rest sum.rest h lt next
+  where
+    by : (first : Operand) (factors : List Operand) (addends : List Addend) → IsSum kinds (record { first = record { first = first; rest = factors }; rest = addends }) → k + (length factors + addend_operators addends) < 2 ^ 64 → BehindInRange (k + (length factors + addend_operators addends)) i behind → AreInRange k i (product_then k (operand_of first) factors (λ k' product. addends_then k' product addends behind))
+    by first [] [] h lt next = sum_in_range first [] [] k i behind kinds le (operand_in_range kinds first le h) tt tt lt next
+    by first [] (addend ∷ addends) h lt next = sum_in_range first [] (addend ∷ addends) k i behind kinds le (numeric_in_range kinds first le h.0.0) h.0.1 h.1 lt next
+    by first (factor ∷ factors) addends h lt next = sum_in_range first (factor ∷ factors) addends k i behind kinds le (numeric_in_range kinds first le h.0.0) h.0.1 h.1 lt next
+
+-- Statements.
+
+printed_in_range : (is_str : Bool) (p : JsOperand) (k i : ℕ) (rest : List JsStmt) → IsInRange p → AreInRange k i rest → AreInRange k i (print_of is_str p ∷ rest)
+printed_in_range true p k i rest h r = (h, r)
+printed_in_range false p k i rest h r = (h, r)
+
+statements_in_range : (program : List Statement) (k : ℕ) (kinds : Kinds) (names : Names) → AreWellFormed kinds names program → k + all_operators program < 2 ^ 64 → length kinds + all_names program < 2 ^ 64 → AreInRange k (length kinds) (statements_from k kinds program)
+statements_in_range [] k kinds names h lt few = tt
+statements_in_range (dart_statements.Print value ∷ program) k kinds names h lt few =
+    let le : length kinds ≤ 2 ^ 64 = omega arith in
+    let here : k + operators value < 2 ^ 64 = omega arith in
+    let lt' : k + operators value + all_operators program < 2 ^ 64 = omega arith in
+    expression_in_range value k (length kinds) _ kinds le h.0 here
+    (λ p pr. printed_in_range (is_text kinds value) p (k + operators value) (length kinds) _ pr (statements_in_range program (k + operators value) kinds names h.1 lt' few))
+statements_in_range (dart_statements.Declare name value ∷ program) k kinds names h lt few =
+    let le : length kinds ≤ 2 ^ 64 = omega arith in
+    let i : length kinds < 2 ^ 64 = omega arith in
+    let here : k + operators value < 2 ^ 64 = omega arith in
+    let lt' : k + operators value + all_operators program < 2 ^ 64 = omega arith in
+    let longer : length (kinds ++ is_text kinds value ∷ []) ≡ suc (length kinds) = omega (arith, length-append kinds (is_text kinds value ∷ [])) in
+    let few' : length (kinds ++ is_text kinds value ∷ []) + all_names program < 2 ^ 64 = omega (arith, longer, few) in
+    expression_in_range value k (length kinds) _ kinds le h.2 here
+    (λ p pr. (i, pr, subst (λ i. AreInRange (k + operators value) i (statements_from (k + operators value) (kinds ++ is_text kinds value ∷ []) program)) longer (statements_in_range program (k + operators value) (kinds ++ is_text kinds value ∷ []) (names ++ name ∷ []) h.3 lt' few')))
+
+pub file_in_range : (bytes : List ℕ) (program : List Statement) → length bytes < 2 ^ 64 → IsProgram bytes program → AreInRange 0 0 (file_of program)
 file_in_range bytes program lt is =
-    let few = few_tokens (tokens_of program) bytes is.spelled in
-    let lets = few_lets program in
-    let bound : 0 + lets_of program < 2 ^ 64 = omega (arith, few, lets) in
-    statements_in_range program 0 (sums_small program (small_tokens (tokens_of program) bytes is.spelled)) bound
+    let few = few_tokens (program_tokens program) is.rest is.spelled in
+    let all = statements_length [] program in
+    let whole : length bytes ≡ length is.gap + length is.rest = ap length is.whole ∙ length-append is.gap is.rest in
+    let operators : 0 + all_operators program < 2 ^ 64 = omega (arith, few, all, whole) in
+    let names : 0 + all_names program < 2 ^ 64 = omega (arith, few, all, whole) in
+    statements_in_range program 0 [] [] is.well_formed operators names

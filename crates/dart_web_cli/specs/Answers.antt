@@ -1,7 +1,7 @@
 -- The lines that are said, and which rule a file breaks.
 use Rattle.std.specs.Prelude.{◌≡◌, ℕ, ◌<◌, ◌≤◌, List, [], ◌∷◌, ◌++◌, length, codes, Option, Some, None, IfSome}
 use Rattle.outside.specs.Outside.{Held, Rose}
-use Rattle.dart_meaning.specs.declared.program.Sum.{Sum}
+use Rattle.dart_meaning.specs.declared.program.Statement.{Statement}
 use Rattle.dart_meaning.specs.Program.{IsProgram}
 use Rattle.dart_web_cli.specs.declared.load.Rule.{Rule}
 use Rattle.dart_web_cli.specs.declared.load.Rule.TheVariants.{U1, N2, G1}
@@ -31,10 +31,10 @@ cannot_line entry = codes "cannot read " ++ (entry ++ (10 ∷ []))
 abbrev pub IsBroken : Rule → Held → List ℕ → Type 0
 IsBroken U1 files entry = files entry ≡ None
 IsBroken N2 files entry = (content : List ℕ) × (files entry ≡ Some content) × (MAX_FILE < length content)
-IsBroken G1 files entry = (content : List ℕ) × (files entry ≡ Some content) × (length content ≤ MAX_FILE) × ((p : List Sum) → IsProgram content p → ⊥)
+IsBroken G1 files entry = (content : List ℕ) × (files entry ≡ Some content) × (length content ≤ MAX_FILE) × ((p : List Statement) → IsProgram content p → ⊥)
 
 -- The entry breaks no rule, and this is its program.
-pub record IsFine (files : Held) (entry : List ℕ) (program : List Sum) : Type 0 where
+pub record IsFine (files : Held) (entry : List ℕ) (program : List Statement) : Type 0 where
   pub content : List ℕ
   pub held : files entry ≡ Some content
   pub short : length content ≤ MAX_FILE
@@ -42,16 +42,16 @@ pub record IsFine (files : Held) (entry : List ℕ) (program : List Sum) : Type 
 
 -- what a file's bytes come to
 abbrev pub Judges : List ℕ → Loaded → Type 0
-Judges bytes (Translated out) = (p : List Sum) × (out ≡ translation p) × (length bytes ≤ MAX_FILE) × IsProgram bytes p
+Judges bytes (Translated out) = (p : List Statement) × (out ≡ translation p) × (length bytes ≤ MAX_FILE) × IsProgram bytes p
 Judges bytes (Broken U1) = ⊥
 Judges bytes (Broken N2) = MAX_FILE < length bytes
-Judges bytes (Broken G1) = (length bytes ≤ MAX_FILE) × ((p : List Sum) → IsProgram bytes p → ⊥)
+Judges bytes (Broken G1) = (length bytes ≤ MAX_FILE) × ((p : List Statement) → IsProgram bytes p → ⊥)
 Judges bytes Failed = ⊥
 Judges bytes Memory = Unit {0}
 
 -- what an entry comes to
 abbrev pub LoadTells : Option Held → List ℕ → Loaded → Type 0
-LoadTells held entry (Translated out) = (p : List Sum) × (out ≡ translation p) × ((name : List ℕ) → RunsAs p name (translation p)) × IfSome held (λ files. IsFine files entry p)
+LoadTells held entry (Translated out) = (p : List Statement) × (out ≡ translation p) × ((name : List ℕ) → RunsAs p name (translation p)) × IfSome held (λ files. IsFine files entry p)
 LoadTells held entry (Broken rule) = IfSome held (λ files. IsBroken rule files entry)
 LoadTells held entry Failed = Unit {0}
 LoadTells held entry Memory = Unit {0}

@@ -2,7 +2,7 @@
 use Rattle.std.specs.Prelude.{◌≡◌, ◌⊎◌, ℕ, ◌≤◌, List, ◌++◌, Option, Some, IfSome, Result, MatchResult}
 use Rattle.std.specs.declared.alloc.AllocError.{AllocError}
 use Rattle.outside.specs.Outside.{Held, Rose, Told, OthersStay, Puts, AddsFront}
-use Rattle.dart_meaning.specs.declared.program.Sum.{Sum}
+use Rattle.dart_meaning.specs.declared.program.Statement.{Statement}
 use Rattle.dart_web_cli.specs.declared.load.Rule.{Rule}
 use Rattle.dart_web_cli.specs.declared.top.Status.{Status}
 use Rattle.dart_web_cli.specs.declared.top.Status.TheVariants.{Ok as Fine, Refused, Usage, ReadFault, WriteFault, Memory, Threw, Spent, Left, Deep, NotInProfile, Stuck}
@@ -90,7 +90,7 @@ abbrev pub IsCauseOf : Call → List ℕ → Type 0
 IsCauseOf call line = IsUsage call line ⊎ (IsRefused call line ⊎ IsReadFault call line)
 
 -- Why a file is put: the entry has a program, whose translation runs as it does.
-pub record IsCompiled (call : Call) (entry out : List ℕ) (program : List Sum) : Type 0 where
+pub record IsCompiled (call : Call) (entry out : List ℕ) (program : List Statement) : Type 0 where
   pub command : IsCompile call.words entry out
   pub fine : IfSome call.old.files (λ files. IsFine files entry program)
   pub runs : RunsAs program out (translation program)
@@ -100,7 +100,7 @@ pub record IsCompiled (call : Call) (entry out : List ℕ) (program : List Sum) 
 pub record IsDone (call : Call) : Type 0 where
   pub entry : List ℕ
   pub out : List ℕ
-  pub program : List Sum
+  pub program : List Statement
   pub compiled : IsCompiled call entry out program
   pub put : PutsFile out (translation program) call.before call.now
 
@@ -108,7 +108,7 @@ pub record IsDone (call : Call) : Type 0 where
 pub record IsSpoiled (call : Call) : Type 0 where
   pub entry : List ℕ
   pub out : List ℕ
-  pub program : List Sum
+  pub program : List Statement
   pub compiled : IsCompiled call entry out program
   pub spoils : SpoilsFile out call.before call.now
 
@@ -152,7 +152,7 @@ IsOrMemory wanted status = (status ≡ wanted) ⊎ (status ≡ Memory)
 pub record IsComplete (call : Call) (status : Status) : Type 0 where
   pub usage : HasNoFault call → IsNoCommand call.words → IsOrMemory Usage status
   pub refused : HasNoFault call → (entry out : List ℕ) (files : Held) (rule : Rule) → IsCompile call.words entry out → call.old.files ≡ Some files → IsBroken rule files entry → IsOrMemory Refused status
-  pub compiled : HasNoFault call → (entry out : List ℕ) (files : Held) (program : List Sum) → IsCompile call.words entry out → call.old.files ≡ Some files → IsFine files entry program → IsOrMemory Fine status
+  pub compiled : HasNoFault call → (entry out : List ℕ) (files : Held) (program : List Statement) → IsCompile call.words entry out → call.old.files ≡ Some files → IsFine files entry program → IsOrMemory Fine status
 
 -- what saying a line comes to
 abbrev pub Finishes : Status → Result (List ℕ) AllocError → SinkState → SinkState → Status → Type 0

@@ -112,9 +112,28 @@ fn a_program_is_translated(rt: HostRuntime) -> Result<(), Fail> {
 }
 
 #[test]
+fn each_operator_is_a_let(rt: HostRuntime) -> Result<(), Fail> {
+    let alloc = rt.alloc();
+    let file = "main(){var a=1+2*3-4;var t='Hi, all!';print(a*a);print(t);var main=t;print(main);}";
+    let put =
+        "function main$() {\nlet a0$ = 2 * 3;\nlet a1$ = 1 + a0$;\nlet a2$ = a1$ - 4;\nlet v0$ = a2$;\n\
+        let v1$ = \"Hi, all!\";\nlet a3$ = v0$ * v0$;\nhost$.print(String(a3$));\nhost$.print(v1$);\n\
+        let v2$ = v1$;\nhost$.print(v2$);\nreturn null;\n}\nmain$();\n";
+    check(&rt, alloc, &compile_row(file), Status::Ok, "", Some(put))
+}
+
+#[test]
 fn other_entries_are_refused(rt: HostRuntime) -> Result<(), Fail> {
     let alloc = rt.alloc();
-    for file in ["", "main(){print(1);", "main(){print(9007199254740992);}"] {
+    for file in [
+        "",
+        "main(){print(1);",
+        "main(){print(9007199254740992);}",
+        "main(){print(a);var a=1;}",
+        "main(){var a=1;var a=2;}",
+        "main(){var if=1;}",
+        "main(){print('a'+'b');}",
+    ] {
         let said = "refused G1 a.dart 0\n";
         check(&rt, alloc, &compile_row(file), Status::Refused, said, None)?;
     }
@@ -242,10 +261,15 @@ fn a_translation_runs_as_its_program(rt: HostRuntime) -> Result<(), Fail> {
     assert_eq!(rt; run.output.len(), 1);
     assert!(rt; run.output.get(0).is("3"));
     assert!(rt; matches!(run.end, End::Done));
-    let left = read_back(alloc, "main(){print(1+2+3);print(9007199254740991+1);}")?;
+    let left = read_back(alloc, "main(){var a=9007199254740991;print(a);print(a+1);}")?;
     assert_eq!(rt; left.output.len(), 1);
-    assert!(rt; left.output.get(0).is("6"));
+    assert!(rt; left.output.get(0).is("9007199254740991"));
     assert!(rt; matches!(left.end, End::Left));
+    let all = read_back(alloc, "main(){var t='a b';print(t);print(2-3*4);}")?;
+    assert_eq!(rt; all.output.len(), 2);
+    assert!(rt; all.output.get(0).is("a b"));
+    assert!(rt; all.output.get(1).is("-10"));
+    assert!(rt; matches!(all.end, End::Done));
     Ok(())
 }
 

@@ -4,4 +4,5 @@ pub mod Taken
 pub mod Statements
 pub mod Exact
 pub mod Canonical
+pub mod Ranges
 pub mod Running

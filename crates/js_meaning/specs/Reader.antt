@@ -1,39 +1,80 @@
 -- What the reader answers, as its code finds it.
 use Rattle.std.specs.Prelude.{◌≡◌, ℕ, zero, suc, ◌-◌, Bool, true, false, if◌then◌else◌, List, [], ◌∷◌, ◌++◌, length, Option, Some, None, Result, Ok, Err, codes}
 use Rattle.js_meaning.specs.declared.tree.JsStmt.{JsStmt}
-use Rattle.js_meaning.specs.declared.tree.JsStmt.TheVariants.{Let, Print}
+use Rattle.js_meaning.specs.declared.tree.JsStmt.TheVariants.{Let, Var, Print, PrintStr}
 use Rattle.js_meaning.specs.declared.read.JsFault.{JsFault}
 use Rattle.js_meaning.specs.declared.read.JsFault.TheVariants.{NotInProfile, Memory}
 use Rattle.js_meaning.specs.declared.scan.Class.TheVariants.{Blank}
-use Rattle.js_meaning.specs.Scanner.{◌>>=◌, back, begins, word, sign, operand, name}
+use Rattle.js_meaning.specs.Scanner.{◌>>=◌, back, begins, starts, word, sign, operator, operand, name}
 
-unfoldable pub let_statement : ℕ → ℕ → List ℕ → Option (JsStmt × List ℕ)
-let_statement size k bytes = do
-  a ← word (codes "let") bytes
-  b ← name k a
-  c ← sign 61 b
-  left ← operand c
-  d ← sign 43 left.1
-  right ← operand d
+unfoldable pub name_and_equals : (letter k : ℕ) → List ℕ → Option (List ℕ)
+name_and_equals letter k bytes = do
+  a ← name letter k bytes
+  sign 61 a
+
+unfoldable pub operation : (at k : ℕ) → List ℕ → Option (JsStmt × List ℕ)
+operation at k bytes = do
+  a ← name_and_equals 97 k bytes
+  left ← operand a
+  found ← operator left.1
+  right ← operand found.1
   rest ← sign 59 right.1
-  Some (Let (size - length bytes) left.0 right.0, rest)
+  Some (Let at found.0 left.0 right.0, rest)
 
-unfoldable pub print_statement : ℕ → List ℕ → Option (JsStmt × List ℕ)
-print_statement size bytes = do
+unfoldable pub variable : (at i : ℕ) → List ℕ → Option (JsStmt × List ℕ)
+variable at i bytes = do
+  a ← name_and_equals 118 i bytes
+  value ← operand a
+  rest ← sign 59 value.1
+  Some (Var at value.0, rest)
+
+unfoldable pub let_statement : (size k i : ℕ) → List ℕ → Option (JsStmt × List ℕ)
+let_statement size k i bytes = do
+  a ← word (codes "let") bytes
+  if starts 118 a then variable (size - length bytes) i a else operation (size - length bytes) k a
+
+unfoldable pub print_opening : List ℕ → Option (List ℕ)
+print_opening bytes = do
   a ← word (codes "host$") bytes
   b ← sign 46 a
   c ← word (codes "print") b
-  d ← sign 40 c
-  e ← word (codes "String") d
-  f ← sign 40 e
-  value ← operand f
-  g ← sign 41 value.1
-  h ← sign 41 g
-  rest ← sign 59 h
-  Some (Print (size - length bytes) value.0, rest)
+  sign 40 c
 
-unfoldable pub statement : ℕ → ℕ → List ℕ → Option (JsStmt × List ℕ)
-statement size k bytes = if begins (codes "let") bytes then let_statement size k bytes else print_statement size bytes
+unfoldable pub string_opening : List ℕ → Option (List ℕ)
+string_opening bytes = do
+  a ← word (codes "String") bytes
+  sign 40 a
+
+unfoldable pub print_closing : List ℕ → Option (List ℕ)
+print_closing bytes = do
+  a ← sign 41 bytes
+  sign 59 a
+
+unfoldable pub string_closing : List ℕ → Option (List ℕ)
+string_closing bytes = do
+  a ← sign 41 bytes
+  print_closing a
+
+unfoldable pub print_of_string : (at : ℕ) → List ℕ → Option (JsStmt × List ℕ)
+print_of_string at bytes = do
+  a ← string_opening bytes
+  value ← operand a
+  rest ← string_closing value.1
+  Some (Print at value.0, rest)
+
+unfoldable pub print_alone : (at : ℕ) → List ℕ → Option (JsStmt × List ℕ)
+print_alone at bytes = do
+  value ← operand bytes
+  rest ← print_closing value.1
+  Some (PrintStr at value.0, rest)
+
+unfoldable pub print_statement : ℕ → List ℕ → Option (JsStmt × List ℕ)
+print_statement size bytes = do
+  a ← print_opening bytes
+  if begins (codes "String") a then print_of_string (size - length bytes) a else print_alone (size - length bytes) a
+
+unfoldable pub statement : (size k i : ℕ) → List ℕ → Option (JsStmt × List ℕ)
+statement size k i bytes = if begins (codes "let") bytes then let_statement size k i bytes else print_statement size bytes
 
 unfoldable pub opening : List ℕ → Option (List ℕ)
 opening bytes = do
@@ -54,9 +95,18 @@ closing bytes = do
   g ← sign 41 f
   sign 59 g
 
-abbrev pub lets_after : ℕ → JsStmt → ℕ
-lets_after k (Let at left right) = suc k
-lets_after k (Print at value) = k
+-- how many names of operations, and how many of variables, stand before the next statement
+abbrev pub operations_after : ℕ → JsStmt → ℕ
+operations_after k (Let at operator left right) = suc k
+operations_after k (Var at value) = k
+operations_after k (Print at value) = k
+operations_after k (PrintStr at value) = k
+
+abbrev pub variables_after : ℕ → JsStmt → ℕ
+variables_after i (Let at operator left right) = i
+variables_after i (Var at value) = suc i
+variables_after i (Print at value) = i
+variables_after i (PrintStr at value) = i
 
 -- nothing is behind the last token
 abbrev pub closed : Option (List ℕ) → Bool
@@ -64,16 +114,16 @@ closed None = false
 closed (Some []) = true
 closed (Some (b ∷ bytes)) = false
 
-unfoldable pub statements : ℕ → ℕ → ℕ → List JsStmt → List ℕ → Option (List JsStmt)
-statements zero size k file bytes = None
-statements (suc turns) size k file bytes =
+unfoldable pub statements : (turns size k i : ℕ) → List JsStmt → List ℕ → Option (List JsStmt)
+statements zero size k i file bytes = None
+statements (suc turns) size k i file bytes =
     if begins (codes "return") bytes then (if closed (closing bytes) then Some file else None)
-    else (do s ← statement size k bytes; statements turns size (lets_after k s.0) (file ++ s.0 ∷ []) s.1)
+    else (do s ← statement size k i bytes; statements turns size (operations_after k s.0) (variables_after i s.0) (file ++ s.0 ∷ []) s.1)
 
 unfoldable pub read : List ℕ → Option (List JsStmt)
 read bytes = do
   rest ← opening (back Blank bytes)
-  statements (length bytes) (length bytes) 0 [] rest
+  statements (length bytes) (length bytes) 0 0 [] rest
 
 -- the reader's answer is this one, unless memory was wanting
 abbrev pub Fails : JsFault → Option (List JsStmt) → Type 0

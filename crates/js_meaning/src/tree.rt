@@ -3,29 +3,52 @@
 use code_units::Text;
 use sqlite_items::Items;
 
-/// The greatest whole number that digits may write, and that a sum may give: 2^53 - 1.
+/// The greatest whole number that digits may write: 2^53 - 1. No operator gives a number that is farther from 0.
 pub const MAX_NUMBER: u64 = 9007199254740991;
 
-/// What is added or printed.
-#[derive(Clone, Copy, Debug, PartialEq, Eq)]
+/// What an operator takes, what a name is given, or what is printed.
+#[derive(Debug, Drop)]
 pub enum Operand {
     /// A whole number.
     Digits(u64),
     /// The name `a0$`, `a1$`, .. of this number.
-    Local(u64),
+    Operation(u64),
+    /// The name `v0$`, `v1$`, .. of this number.
+    Variable(u64),
+    /// A string: letters, digits, blanks and `. , : ; ! ? -` in double quotes.
+    Str(Text),
+}
+
+/// What stands between two operands.
+#[derive(Clone, Copy, Debug)]
+pub enum Operator {
+    Plus,
+    Minus,
+    Times,
 }
 
 /// A statement; `at` is the offset in bytes of its first token in the file.
-#[derive(Clone, Copy, Debug, PartialEq, Eq)]
+#[derive(Debug, Drop)]
 pub enum JsStmt {
-    /// `let a0$ = left + right;`, where the name has as its number how many lets stand before it.
+    /// `let a0$ = left + right;`, where the name has as its number how many such statements stand before it.
     Let {
         at: u64,
+        operator: Operator,
         left: Operand,
         right: Operand,
     },
+    /// `let v0$ = value;`, where the name has as its number how many such statements stand before it.
+    Var {
+        at: u64,
+        value: Operand,
+    },
     /// `host$.print(String(value));`
     Print {
+        at: u64,
+        value: Operand,
+    },
+    /// `host$.print(value);`
+    PrintStr {
         at: u64,
         value: Operand,
     },

@@ -1,4 +1,4 @@
-use Rattle.dart_meaning.proofs.Found.{found_program}
+use Rattle.dart_meaning.proofs.Statements.{found_program}
 use Rattle.dart_meaning.proofs.run.run_first.Goals as goal
 
 pub returns : goal.returns

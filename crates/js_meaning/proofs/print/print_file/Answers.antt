@@ -9,6 +9,6 @@ returns c =
     let items : List JsStmt = c.as_slice-stmt-items.result.now in
     let past : length items ≤ c.loop-stmt.stmt-index = omega arith in
     c.in_ok-extend-2.ensures.ok
-    ∙ ap (λ rest. c.loop-stmt.out ++ body_text c.loop-stmt.lets rest) (sym (drop_of_length-le items past))
+    ∙ ap (λ rest. c.loop-stmt.out ++ body_text c.loop-stmt.operations c.loop-stmt.variables rest) (sym (drop_of_length-le items past))
     ∙ c.loop-stmt.invariant.text
     ∙ ap file_text c.as_slice-stmt-items.ensures
