@@ -1,0 +1,11 @@
+pub mod Fronts
+pub mod Lookups
+pub mod Lexemes
+pub mod Numbers
+pub mod Steps
+pub mod Parts
+pub mod Reading
+pub mod Whole
+pub mod Spans
+pub mod Exact
+pub mod Examples

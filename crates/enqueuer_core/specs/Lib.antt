@@ -1,0 +1,9 @@
+pub mod Least
+pub mod Core
+pub mod LawsOfCore
+pub mod Desks
+pub mod Worklists
+pub mod Inside
+pub mod Codes
+pub mod Pair
+pub mod PairLaws
