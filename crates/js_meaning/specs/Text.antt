@@ -12,7 +12,7 @@ use Rattle.js_meaning.specs.Spelling.{operation_name, variable_name, operator_si
 abbrev pub line_end : List ℕ
 line_end = 10 ∷ []
 
--- A character of a string stands as itself. A unit that is no ASCII character, which no tree in range has, is a ?.
+-- A character of a string stands as itself. A unit that is no ASCII character, which no tree in range has, is a question mark.
 abbrev pub character : ℕ → ℕ
 character unit = if nat_lt unit 128 then unit else 63
 

@@ -14,7 +14,7 @@ is_digit b = nat_le 48 b && nat_le b 57
 abbrev pub is_letter : ℕ → Bool
 is_letter b = (nat_le 65 b && nat_le b 90) || (nat_le 97 b && nat_le b 122)
 
--- . , : ; ! ? -
+-- the full stop, the comma, the colon, the semicolon, the exclamation mark, the question mark and the hyphen
 abbrev pub is_mark : ℕ → Bool
 is_mark b = b == 46 || b == 44 || b == 58 || b == 59 || b == 33 || b == 63 || b == 45
 
