@@ -11,13 +11,16 @@ use crate::items::{Read, next_item, place};
 use crate::levels::Levels;
 use dart_syntax::{Rule, Token, TokenList, Tokens};
 use std::alloc::{AllocError, Global};
+use thiserror::Error;
 
 /// Why a file has no tokens.
-#[derive(Clone, Copy, Debug, PartialEq, Eq)]
+#[derive(Clone, Copy, Debug, PartialEq, Eq, Error)]
 pub enum ScanError {
     /// The first rule on tokens that the file breaks, and the offset in bytes at which it does.
+    #[error("rule {rule:?} is broken at byte {at}")]
     Fault { at: u32, rule: Rule },
     /// Memory was wanting.
+    #[error("out of memory")]
     Memory,
 }
 

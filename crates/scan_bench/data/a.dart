@@ -1,0 +1,3 @@
+main() { // begins
+  print('${1 + 0x1F} and $this'); /* twice */
+}
