@@ -1,0 +1,7 @@
+pub mod Words
+pub mod Tokens
+pub mod Grammar
+pub mod Spelling
+pub mod Text
+pub mod Places
+pub mod SpellingLaws

@@ -1,0 +1,14 @@
+//! The trees of the JavaScript subset, and how they are spelled.
+//!
+//! - [`tree`]: files, statements and expressions.
+//! - [`words`]: the words and signs of the grammar.
+#![tactic(auto)]
+
+pub mod tree;
+pub mod words;
+
+pub use tree::{
+    JsEntry, JsExpr, JsFile, JsFunction, JsHead, JsItem, JsItems, JsPrimary, JsSelector, JsStmt,
+    NamedTree, TreeList,
+};
+pub use words::{JsMember, JsOperator};
