@@ -5,3 +5,4 @@ pub mod Spelling
 pub mod Text
 pub mod Places
 pub mod SpellingLaws
+pub mod Prints

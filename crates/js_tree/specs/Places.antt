@@ -2,13 +2,13 @@
 use Rattle.std.specs.Prelude.{◌≡◌, map}
 use Rattle.js_tree.specs.declared.tree.JsExpr.{JsExpr, fold-JsExpr}
 use Rattle.js_tree.specs.declared.tree.JsExpr.TheVariants as e
-use Rattle.js_tree.specs.declared.tree.JsHead.{JsHead}
+use Rattle.js_tree.specs.declared.tree.JsHead.{JsHead, fold-JsHead}
 use Rattle.js_tree.specs.declared.tree.JsHead.TheVariants as h
-use Rattle.js_tree.specs.declared.tree.JsSelector.{JsSelector}
+use Rattle.js_tree.specs.declared.tree.JsSelector.{JsSelector, fold-JsSelector}
 use Rattle.js_tree.specs.declared.tree.JsSelector.TheVariants as l
-use Rattle.js_tree.specs.declared.tree.JsPrimary.{JsPrimary}
+use Rattle.js_tree.specs.declared.tree.JsPrimary.{JsPrimary, fold-JsPrimary}
 use Rattle.js_tree.specs.declared.tree.JsFunction.{JsFunction, fold-JsFunction}
-use Rattle.js_tree.specs.declared.tree.JsEntry.{JsEntry}
+use Rattle.js_tree.specs.declared.tree.JsEntry.{JsEntry, fold-JsEntry}
 use Rattle.js_tree.specs.declared.tree.JsStmt.{JsStmt, fold-JsStmt}
 use Rattle.js_tree.specs.declared.tree.JsStmt.TheVariants as s
 use Rattle.js_tree.specs.declared.tree.JsExpr.TheOpen.{JsExpr-F, JsHead-F, JsSelector-F, JsStmt-F, JsEntry-F, JsFunction-F, JsPrimary-F}
@@ -74,6 +74,18 @@ primary_of a = record { head = a.head; selectors = a.selectors }
 
 abbrev pub expr_without_places : JsExpr → JsExpr
 expr_without_places = fold-JsExpr JsExpr JsHead JsSelector JsStmt JsEntry JsFunction JsPrimary expr_of head_of selector_of stmt_of entry_of function_of primary_of
+
+abbrev pub head_without_places : JsHead → JsHead
+head_without_places = fold-JsHead JsExpr JsHead JsSelector JsStmt JsEntry JsFunction JsPrimary expr_of head_of selector_of stmt_of entry_of function_of primary_of
+
+abbrev pub selector_without_places : JsSelector → JsSelector
+selector_without_places = fold-JsSelector JsExpr JsHead JsSelector JsStmt JsEntry JsFunction JsPrimary expr_of head_of selector_of stmt_of entry_of function_of primary_of
+
+abbrev pub primary_without_places : JsPrimary → JsPrimary
+primary_without_places = fold-JsPrimary JsExpr JsHead JsSelector JsStmt JsEntry JsFunction JsPrimary expr_of head_of selector_of stmt_of entry_of function_of primary_of
+
+abbrev pub entry_without_places : JsEntry → JsEntry
+entry_without_places = fold-JsEntry JsExpr JsHead JsSelector JsStmt JsEntry JsFunction JsPrimary expr_of head_of selector_of stmt_of entry_of function_of primary_of
 
 abbrev pub function_without_places : JsFunction → JsFunction
 function_without_places = fold-JsFunction JsExpr JsHead JsSelector JsStmt JsEntry JsFunction JsPrimary expr_of head_of selector_of stmt_of entry_of function_of primary_of

@@ -2,8 +2,12 @@
 use Rattle.std.specs.Prelude.{ℕ, ◌+◌, ◌/◌, ◌%◌, ◌==◌, nat_lt, if◌then◌else◌, List, [], ◌∷◌, ◌++◌, map, codes}
 use Rattle.std.specs.Fmt.{decimal}
 use Rattle.js_tree.specs.declared.tree.JsExpr.{JsExpr, fold-JsExpr}
-use Rattle.js_tree.specs.declared.tree.JsStmt.{JsStmt, fold-JsStmt}
+use Rattle.js_tree.specs.declared.tree.JsHead.{JsHead, fold-JsHead}
+use Rattle.js_tree.specs.declared.tree.JsSelector.{JsSelector, fold-JsSelector}
+use Rattle.js_tree.specs.declared.tree.JsPrimary.{JsPrimary, fold-JsPrimary}
+use Rattle.js_tree.specs.declared.tree.JsEntry.{JsEntry, fold-JsEntry}
 use Rattle.js_tree.specs.declared.tree.JsFunction.{JsFunction, fold-JsFunction}
+use Rattle.js_tree.specs.declared.tree.JsStmt.{JsStmt, fold-JsStmt}
 use Rattle.js_tree.specs.declared.tree.JsExpr.TheOpen.{JsExpr-F, JsHead-F, JsSelector-F, JsStmt-F, JsEntry-F, JsFunction-F, JsPrimary-F}
 use Rattle.js_tree.specs.declared.tree.JsItem.{JsItem}
 use Rattle.js_tree.specs.declared.tree.JsItem.TheVariants.{Declared, Var, Statement}
@@ -111,6 +115,18 @@ stmt_text (JsStmt-F.TryFinally at xs ys) = line (codes "try " ++ (block_text xs 
 
 abbrev pub text_of_expr : JsExpr → Bytes
 text_of_expr = fold-JsExpr Bytes Bytes Bytes Bytes Bytes Bytes Bytes expr_text head_text selector_text stmt_text entry_text code_text primary_text
+
+abbrev pub text_of_head : JsHead → Bytes
+text_of_head = fold-JsHead Bytes Bytes Bytes Bytes Bytes Bytes Bytes expr_text head_text selector_text stmt_text entry_text code_text primary_text
+
+abbrev pub text_of_selector : JsSelector → Bytes
+text_of_selector = fold-JsSelector Bytes Bytes Bytes Bytes Bytes Bytes Bytes expr_text head_text selector_text stmt_text entry_text code_text primary_text
+
+abbrev pub text_of_primary : JsPrimary → Bytes
+text_of_primary = fold-JsPrimary Bytes Bytes Bytes Bytes Bytes Bytes Bytes expr_text head_text selector_text stmt_text entry_text code_text primary_text
+
+abbrev pub text_of_entry : JsEntry → Bytes
+text_of_entry = fold-JsEntry Bytes Bytes Bytes Bytes Bytes Bytes Bytes expr_text head_text selector_text stmt_text entry_text code_text primary_text
 
 abbrev pub text_of_function : JsFunction → Bytes
 text_of_function = fold-JsFunction Bytes Bytes Bytes Bytes Bytes Bytes Bytes expr_text head_text selector_text stmt_text entry_text code_text primary_text
