@@ -14,6 +14,6 @@ TextIsSpelled = (file : JsFile) → HasSpelling file → (placed : JsFile) × Sa
 abbrev pub SpelledHasSpelling : Type 0
 SpelledHasSpelling = (bytes : Bytes) (file : JsFile) → IsSpelled bytes file → HasSpelling file
 
--- places have no say in the canonical text, and in whether there is a spelling
+-- places have no say in the canonical text
 abbrev pub PlacesHaveNoSay : Type 0
 PlacesHaveNoSay = (file other : JsFile) → SameTree file other → file_text file ≡ file_text other
