@@ -1,7 +1,7 @@
 -- A tree that tokens derive has a spelling.
-use Rattle.std.proofs.Common.{◌≡◌, ℕ, ◌+◌, ◌*◌, ◌-◌, ◌<◌, ◌≤◌, Bool, true, false, List, [], ◌∷◌, refl, sym, ap, arith}
-use Rattle.std.specs.Prelude.{not, ◌&&◌, ◌||◌, ◌==◌, nat_le, nat_lt, if◌then◌else◌, codes}
-use Rattle.std.proofs.lemmas.Bool.{and_from, and_parts, lt-ltb, leb-true}
+use Rattle.std.proofs.Common.{◌≡◌, ℕ, ◌<◌, Bool, true, false, List, [], ◌∷◌, refl, ap, arith}
+use Rattle.std.specs.Prelude.{not, ◌&&◌, ◌||◌, ◌==◌, nat_lt, codes}
+use Rattle.std.proofs.lemmas.Bool.{and_from, and_parts, lt-ltb}
 use Rattle.std.proofs.lemmas.Bool.Decides.{nat_tests}
 use Rattle.js_tree.specs.declared.tree.JsExpr.{JsExpr}
 use Rattle.js_tree.specs.declared.tree.JsHead.{JsHead}
@@ -11,7 +11,7 @@ use Rattle.js_tree.specs.declared.tree.JsFunction.{JsFunction}
 use Rattle.js_tree.specs.declared.tree.JsEntry.{JsEntry}
 use Rattle.js_tree.specs.declared.tree.JsStmt.{JsStmt}
 use Rattle.js_tree.specs.declared.tree.JsItem.{JsItem}
-use Rattle.js_tree.specs.Tokens.{Bytes, is_digit, is_plain, is_hex, hex_value, IsQuoted, close, plain, escape, unicode, Form, Run, Quoted, Sign, Unreadable, Token, Tokens, IsToken, run, quoted, sign', unreadable, AreTokens, end, blank, token'}
+use Rattle.js_tree.specs.Tokens.{Bytes, is_plain, is_hex, hex_value, IsQuoted, close, plain, escape, unicode, Form, Run, Quoted, Sign, Unreadable, Tokens, IsToken, run, quoted, sign', unreadable, AreTokens, end, blank, token'}
 use Rattle.js_tree.specs.Grammar as g
 use Rattle.js_tree.specs.Grammar.{Names, is_name, is_among, next_is, IsExpr, AreEntries, AreExprs, AreListed, AreArguments, IsPrimary, IsHead, AreSelectors, AreNames, AreParameters, IsFunction, IsBlock, AreStmts, IsStmt, AreItems}
 use Rattle.js_tree.specs.Spelling as w

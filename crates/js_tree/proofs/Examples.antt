@@ -1,5 +1,5 @@
 -- The canonical text of small trees, computed.
-use Rattle.std.proofs.Common.{◌≡◌, ℕ, List, [], ◌∷◌, ◌++◌, refl}
+use Rattle.std.proofs.Common.{◌≡◌, List, [], ◌∷◌, refl}
 use Rattle.std.specs.Prelude.{codes}
 use Rattle.js_tree.specs.declared.tree.JsExpr.{JsExpr}
 use Rattle.js_tree.specs.declared.tree.JsExpr.TheVariants as e
@@ -8,11 +8,8 @@ use Rattle.js_tree.specs.declared.tree.JsHead.TheVariants as h
 use Rattle.js_tree.specs.declared.tree.JsSelector.{JsSelector}
 use Rattle.js_tree.specs.declared.tree.JsSelector.TheVariants as l
 use Rattle.js_tree.specs.declared.tree.JsPrimary.{JsPrimary}
-use Rattle.js_tree.specs.declared.tree.JsFunction.{JsFunction}
-use Rattle.js_tree.specs.declared.tree.JsEntry.{JsEntry}
 use Rattle.js_tree.specs.declared.tree.JsStmt.{JsStmt}
 use Rattle.js_tree.specs.declared.tree.JsStmt.TheVariants as s
-use Rattle.js_tree.specs.declared.tree.JsItem.{JsItem}
 use Rattle.js_tree.specs.declared.tree.JsItem.TheVariants as i
 use Rattle.js_tree.specs.declared.tree.JsFile.{JsFile}
 use Rattle.js_tree.specs.declared.words.JsMember.TheVariants as m

@@ -12,7 +12,6 @@ use Rattle.js_tree.specs.declared.tree.JsFunction.{JsFunction, roll-JsFunction}
 use Rattle.js_tree.specs.declared.tree.JsStmt.{JsStmt, roll-JsStmt}
 use Rattle.js_tree.specs.declared.tree.JsItem.{JsItem}
 use Rattle.js_tree.specs.declared.tree.JsItem.TheVariants.{Declared, Var, Statement}
-use Rattle.js_tree.specs.declared.tree.JsFile.{JsFile}
 use Rattle.js_tree.specs.Tokens.{Bytes}
 use Rattle.js_tree.specs.Text.{joined, line, expr_text, head_text, selector_text, stmt_text, entry_text, code_text, primary_text, text_of_expr, text_of_head, text_of_selector, text_of_primary, text_of_entry, text_of_function, text_of_stmt, text_of_item}
 use Rattle.js_tree.specs.Places.{expr_of, head_of, selector_of, stmt_of, entry_of, function_of, primary_of, expr_without_places, head_without_places, selector_without_places, primary_without_places, entry_without_places, function_without_places, stmt_without_places, item_without_places}

@@ -1,10 +1,10 @@
 -- A word, a sign, a string or a blank, and then what follows.
-use Rattle.std.proofs.Common.{◌≡◌, ℕ, ◌+◌, ◌-◌, ◌*◌, ◌/◌, ◌%◌, ◌<◌, ◌≤◌, ◌^◌, Bool, true, false, not, ◌||◌, ◌&&◌, List, [], ◌∷◌, ◌++◌, length, map, refl, sym, ap, ◌∙◌, subst, append_assoc, arith}
+use Rattle.std.proofs.Common.{◌≡◌, ℕ, ◌+◌, ◌-◌, ◌*◌, ◌/◌, ◌%◌, ◌<◌, ◌≤◌, Bool, true, false, not, ◌||◌, ◌&&◌, List, [], ◌∷◌, ◌++◌, length, map, refl, sym, ◌∙◌, subst, append_assoc, arith}
 use Rattle.std.specs.Prelude.{◌==◌, nat_le, nat_lt, if◌then◌else◌, codes}
 use Rattle.std.specs.List.{list_all, list_any}
 use Rattle.std.specs.Str.{bytes_eq}
 use Rattle.std.specs.Fmt.{decimal}
-use Rattle.std.proofs.lemmas.Bool.{eq-eqb, eqb-true, leb-true, le-leb, lt-ltb, ltb-true, and_from, and_parts, or_left, or_right}
+use Rattle.std.proofs.lemmas.Bool.{eq-eqb, eqb-true, leb-true, le-leb, ltb-true, and_from, and_parts, or_left, or_right}
 use Rattle.std.proofs.lemmas.Bool.Decides.{nat_tests}
 use Rattle.std.proofs.lemmas.Slice.Eq.{bytes_eq-Decides}
 use Rattle.std.proofs.lemmas.Fmt.{decimal_by_steps}
@@ -14,7 +14,7 @@ use Rattle.js_tree.specs.declared.words.JsMember.TheVariants as m
 use Rattle.js_tree.specs.declared.words.JsOperator.{JsOperator}
 use Rattle.js_tree.specs.declared.words.JsOperator.TheVariants as o
 use Rattle.js_tree.specs.Words.{member_text, operator_text}
-use Rattle.js_tree.specs.Tokens.{Bytes, is_digit, is_part, is_plain, is_hex, hex_value, signs, is_sign, BeginsWith, IsQuoted, close, plain, escape, unicode, Run, Quoted, Sign, Place, Token, Tokens, EndsRun, is_run, IsToken, run, quoted, sign', AreTokens, blank, token'}
+use Rattle.js_tree.specs.Tokens.{Bytes, is_digit, is_part, is_plain, is_hex, hex_value, signs, is_sign, IsQuoted, close, plain, escape, unicode, Quoted, Place, Tokens, EndsRun, is_run, IsToken, run, quoted, sign', AreTokens, blank, token'}
 use Rattle.js_tree.specs.Grammar.{word, quoted as string_token, sign, next_is, is_name, greatest}
 use Rattle.js_tree.specs.Spelling.{are_units}
 use Rattle.js_tree.specs.Text.{joined, hex_digit, unicode_escape, unit_text, string_text}

@@ -1,7 +1,6 @@
 -- What the canonical text of each form, and then what follows, is scanned to, from its parts.
 use Rattle.std.proofs.Common.{◌≡◌, ℕ, ◌≤◌, Bool, true, false, List, [], ◌∷◌, ◌++◌, map, refl, sym, ap, ap₂, ◌∙◌, subst, append_assoc}
 use Rattle.std.specs.Prelude.{not, ◌&&◌, codes}
-use Rattle.std.specs.Str.{bytes_eq}
 use Rattle.std.specs.Fmt.{decimal}
 use Rattle.std.proofs.lemmas.Bool.{and_parts}
 use Rattle.js_tree.specs.declared.tree.JsExpr.{JsExpr}
@@ -14,7 +13,6 @@ use Rattle.js_tree.specs.declared.tree.JsPrimary.{JsPrimary}
 use Rattle.js_tree.specs.declared.tree.JsFunction.{JsFunction}
 use Rattle.js_tree.specs.declared.tree.JsEntry.{JsEntry}
 use Rattle.js_tree.specs.declared.tree.JsStmt.{JsStmt}
-use Rattle.js_tree.specs.declared.tree.JsStmt.TheVariants as s
 use Rattle.js_tree.specs.declared.words.JsMember.{JsMember}
 use Rattle.js_tree.specs.declared.words.JsOperator.{JsOperator}
 use Rattle.js_tree.specs.Words.{member_text, operator_text}
@@ -22,11 +20,11 @@ use Rattle.js_tree.specs.Tokens.{Bytes, Token, Tokens, EndsRun, AreTokens}
 use Rattle.js_tree.specs.Grammar as g
 use Rattle.js_tree.specs.Grammar.{Names, is_name, is_among, greatest, next_is, IsExpr, AreEntries, AreExprs, AreListed, AreArguments, IsPrimary, IsHead, AreSelectors, AreNames, AreParameters, IsFunction, IsBlock, AreStmts, IsStmt}
 use Rattle.js_tree.specs.Spelling.{are_units, are_names, calls}
-use Rattle.js_tree.specs.Text.{joined, separated, arguments_text, string_text, block_text, function_text, text_of_expr, text_of_head, text_of_selector, text_of_primary, text_of_entry, text_of_function, text_of_stmt}
+use Rattle.js_tree.specs.Text.{joined, separated, arguments_text, block_text, function_text, text_of_expr, text_of_head, text_of_selector, text_of_primary, text_of_entry, text_of_stmt}
 use Rattle.js_tree.specs.Places.{expr_without_places, head_without_places, selector_without_places, primary_without_places, entry_without_places, function_without_places, stmt_without_places}
 use Rattle.js_tree.proofs.Layers as t
 use Rattle.js_tree.proofs.Unplaced as u
-use Rattle.js_tree.proofs.Scanning.{Follows, Closes, closed, semicolon, comma, parenthesis, bracket, open_bracket, brace, sign_then, word_then, string_then, space, line_end, member_is_run, operator_is_sign, operator_is_longest, operator_no_call, name_is_run, number_is_run}
+use Rattle.js_tree.proofs.Scanning.{Follows, Closes, closed, comma, parenthesis, bracket, brace, sign_then, word_then, string_then, space, member_is_run, operator_is_sign, operator_is_longest, operator_no_call, name_is_run, number_is_run}
 
 -- the text is scanned to tokens, of which there is a first one, and these derive the tree with its places
 pub record Spells (size : ℕ) (line : Bool) (text : Bytes) {A : Type 0} (without : A → A) (a : A) (derives : Tokens → A → Type 0) : Type 0 where

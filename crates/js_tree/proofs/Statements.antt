@@ -7,19 +7,17 @@ use Rattle.js_tree.specs.declared.tree.JsFunction.{JsFunction}
 use Rattle.js_tree.specs.declared.tree.JsEntry.{JsEntry}
 use Rattle.js_tree.specs.declared.tree.JsHead.{JsHead}
 use Rattle.js_tree.specs.declared.tree.JsSelector.{JsSelector}
-use Rattle.js_tree.specs.declared.tree.JsSelector.TheVariants as l
 use Rattle.js_tree.specs.declared.tree.JsStmt.{JsStmt}
 use Rattle.js_tree.specs.declared.tree.JsStmt.TheVariants as s
 use Rattle.js_tree.specs.declared.tree.JsItem.{JsItem}
 use Rattle.js_tree.specs.declared.tree.JsItem.TheVariants as i
-use Rattle.js_tree.specs.declared.tree.JsFile.{JsFile}
-use Rattle.js_tree.specs.Tokens.{Bytes, Place, Token, Tokens, AreTokens, end}
+use Rattle.js_tree.specs.Tokens.{Bytes, Place, Tokens, AreTokens, end}
 use Rattle.js_tree.specs.Grammar as g
 use Rattle.js_tree.specs.Grammar.{Names, is_name, is_among, IsExpr, IsPrimary, AreStmts, IsStmt, AreItems}
 use Rattle.js_tree.specs.Spelling as w
 use Rattle.js_tree.specs.Spelling.{HasExpr, HaveExprs, HaveEntries, HasPrimary, HasHead, HaveSelectors, HasFunction, HaveStmts, HasStmt, HaveItems}
-use Rattle.js_tree.specs.Text.{joined, block_text, function_text, text_of_expr, text_of_primary, text_of_stmt, text_of_function, text_of_item, file_text}
-use Rattle.js_tree.specs.Places.{expr_without_places, stmt_without_places, item_without_places, SameTree}
+use Rattle.js_tree.specs.Text.{joined, block_text, text_of_expr, text_of_stmt, text_of_item, file_text}
+use Rattle.js_tree.specs.Places.{expr_without_places, stmt_without_places, item_without_places}
 use Rattle.js_tree.specs.SpellingLaws.{TextIsSpelled}
 use Rattle.js_tree.proofs.Layers as t
 use Rattle.js_tree.proofs.Unplaced as u

@@ -1,5 +1,5 @@
 //! The canonical spelling of a tree, appended to bytes.
-ghost use Rattle.std.specs.Prelude.{◌≡◌, ◌++◌, map, IfOk, OnOk, ◌<◌, ◌+◌, if◌then◌else◌, codes};
+ghost use Rattle.std.specs.Prelude.{◌≡◌, ◌++◌, map, IfOk, OnOk, ◌<◌, if◌then◌else◌, codes};
 ghost use Rattle.std.specs.Fmt.{decimal};
 ghost use Rattle.js_tree.specs.Text.{joined, separated, unit_text, hex_digit, unicode_escape, string_text, arguments_text, block_text, line, text_of_expr, text_of_head, text_of_selector, text_of_primary, text_of_entry, text_of_function, text_of_stmt, text_of_item, file_text};
 ghost use Rattle.js_tree.specs.Tokens.{is_plain};

@@ -1,5 +1,5 @@
 use Rattle.std.proofs.Common.{◌≡◌, ◌++◌, map, drop}
-use Rattle.js_tree.specs.Text.{joined, text_of_item, file_text}
+use Rattle.js_tree.specs.Text.{joined, text_of_item}
 use Rattle.js_tree.proofs.print.print_file.Given as goal
 
 abbrev pub invariant-loop-item : goal.invariant-loop-item
