@@ -1,0 +1,9 @@
+pub mod Lists
+pub mod Layers
+pub mod Examples
+pub mod Unplaced
+pub mod Scanning
+pub mod Spelled
+pub mod Statements
+pub mod Derived
+pub mod SameText
