@@ -1,14 +1,13 @@
 -- Masks that stand in pages of one size.
-use Rattle.std.proofs.Common.{◌≡◌, ◌≢◌, ℕ, zero, suc, ◌+◌, ◌*◌, ◌/◌, ◌<◌, ◌≤◌, List, [], ◌∷◌, ◌++◌, length, refl, sym, ap, ◌∙◌, arith, subst, ⊎_elim, get_or, set, replicate}
+use Rattle.std.proofs.Common.{◌≡◌, ◌≢◌, ℕ, zero, suc, ◌+◌, ◌*◌, ◌<◌, List, [], ◌∷◌, ◌++◌, length, sym, ap, ◌∙◌, arith, subst, ⊎_elim, get_or, set, replicate}
 use Rattle.std.proofs.lemmas.Bool.Decides.{eqb_tells}
-use Rattle.std.proofs.lemmas.Bool.{cases_lt}
 use Rattle.std.specs.Prelude.{nat_eq, true, false}
 use Rattle.std.proofs.lemmas.List.{get_or-set_same, get_or-set_other, length-set, length-append, get_or-append-add, set-append_left, set-append_right, get_or-replicate, length-replicate, replicate-append-replicate, get_or_default}
 use Rattle.std.proofs.Math.ListN.{get_or-append}
 use Rattle.std.proofs.Math.Nat.{suc-mul, zero-mul}
 use Rattle.type_masks.specs.Masks.{Kinds, with_kind}
 use Rattle.world_state.specs.Worlds.{no_kinds}
-use Rattle.world_state.specs.Pages.{nothing_below, mask_of, with_kind_at, all_masks, AreOf}
+use Rattle.world_state.specs.Pages.{mask_of, with_kind_at, all_masks, AreOf}
 
 rest_of : (n : ℕ) (p : List Kinds) (ps : List (List Kinds)) → AreOf n (p ∷ ps) → AreOf n ps
 rest_of n p ps are k within = are (suc k) (omega arith)

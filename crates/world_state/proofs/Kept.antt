@@ -1,6 +1,6 @@
 -- Worlds that are kept in masks.
-use Rattle.std.proofs.Common.{◌≡◌, ◌≢◌, ℕ, zero, suc, ◌*◌, ◌/◌, ◌<◌, ◌≤◌, Bool, true, false, ◌&&◌, ◌||◌, List, [], ◌∷◌, length, refl, sym, ap, ◌∙◌, arith, subst, ⊎_elim, get_or, set, take, replicate}
-use Rattle.std.proofs.lemmas.Bool.{eq-eqb, eqb-true, true≢false, cases_lt}
+use Rattle.std.proofs.Common.{◌≡◌, ◌≢◌, ℕ, zero, suc, ◌*◌, ◌/◌, ◌<◌, ◌≤◌, true, false, ◌&&◌, ◌||◌, List, [], ◌∷◌, length, refl, sym, ap, ◌∙◌, arith, subst, ⊎_elim, set, take, replicate}
+use Rattle.std.proofs.lemmas.Bool.{eq-eqb, eqb-true, true≢false}
 use Rattle.std.proofs.lemmas.Bool.Decides.{eqb_tells}
 use Rattle.std.proofs.lemmas.List.{get_or-set_same, get_or-set_other, length-set, get_or-take, take-replicate, get_or-replicate}
 use Rattle.std.proofs.Math.Seq.{take-set-lt}
@@ -13,7 +13,7 @@ use Rattle.type_masks.specs.declared.shape.Shape.{Shape}
 use Rattle.type_masks.proofs.Sets.{same_bool, and_true, or_true, or_right, or_cases, contains_insert}
 use Rattle.world_state.specs.declared.fact.Fact.TheVariants.{In, Live}
 use Rattle.world_state.specs.Facts.{InShape}
-use Rattle.world_state.specs.Worlds.{Facts, no_kinds, mask_at, has_fact, with_fact, IsWorld, empty_of}
+use Rattle.world_state.specs.Worlds.{no_kinds, mask_at, has_fact, with_fact, IsWorld, empty_of}
 use Rattle.world_state.specs.Pages.{nothing_below, mask_of, with_kind_at}
 use Rattle.world_state.specs.Kept.{kinds_of, facts_in, IsKept}
 use Rattle.world_state.proofs.WorldFacts.{world_with, world_empty, empty_at}

@@ -1,7 +1,7 @@
 //! Worlds of facts.
 ghost use Rattle.std.specs.Prelude.{◌≡◌, ◌/◌, ◌<◌, IfOk, OnOk, OnErr};
 ghost use Rattle.std.specs.List.{AllByRecursion, list_all};
-ghost use Rattle.world_state.specs.declared.fact.Fact.TheVariants.{Live};
+ghost use Rattle.world_state.specs.declared.fact.Fact.TheVariants.{In, Live};
 ghost use Rattle.world_state.specs.Facts.{InShape};
 ghost use Rattle.world_state.specs.Worlds.{has_fact, mask_at, with_fact, with_facts, absent_of, absent_along, IsWorld, empty_of};
 
@@ -125,9 +125,28 @@ impl World {
         ensures err { OnErr result (self.new ≡ self.old) }
     {
         match fact {
-            Fact::In { slot, kind } => self.masks.add(slot as usize, kind)?,
-            Fact::Live { member } => self.live.add(block_of(member), member)?,
+            Fact::In { slot, kind } => self.add_kind(slot, kind),
+            Fact::Live { member } => self.add_member(member),
         }
+    }
+
+    // An `Err` changes nothing.
+    fn add_kind(&mut self, slot: u32, kind: u32) -> Result<(), AllocError>
+        requires { InShape self.old.shape (In slot kind) }
+        ensures ok { OnOk result (self.new ≡ with_fact self.old (In slot kind)) }
+        ensures err { OnErr result (self.new ≡ self.old) }
+    {
+        self.masks.add(slot as usize, kind)?;
+        Ok(())
+    }
+
+    // An `Err` changes nothing.
+    fn add_member(&mut self, member: u32) -> Result<(), AllocError>
+        requires { member < self.old.shape.members }
+        ensures ok { OnOk result (self.new ≡ with_fact self.old (Live member)) }
+        ensures err { OnErr result (self.new ≡ self.old) }
+    {
+        self.live.add(block_of(member), member)?;
         Ok(())
     }
 

@@ -1,8 +1,7 @@
-use Rattle.std.proofs.Common.{◌≡◌, ◌<◌, ◌+◌, ◌*◌, ◌/◌, ◌%◌, length, sym, ap, ◌∙◌, arith, subst}
+use Rattle.std.proofs.Common.{◌<◌, ◌/◌, ◌%◌, length, arith, subst}
 use Rattle.std.proofs.lemmas.Result.{on_ok_weaker}
 use Rattle.type_masks.specs.Masks.{Kinds}
-use Rattle.world_state.specs.Pages.{mask_of, all_masks}
-use Rattle.world_state.proofs.InPages.{length_all, page_has, mask_there, kind_there, are_after}
+use Rattle.world_state.proofs.InPages.{length_all, page_has, mask_there, kind_there}
 use Rattle.world_state.proofs.page_table.add_to.Goals as goal
 
 pub index_mut-requires : goal.index_mut-requires
