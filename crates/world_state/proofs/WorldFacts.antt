@@ -11,6 +11,7 @@ use Rattle.std.specs.FinSet as sets
 use Rattle.type_masks.specs.Masks.{Kinds, has, with_kind, is_within, is_same}
 use Rattle.world_state.specs.Facts.{InShape, same_fact, is_among, is_of_slot}
 use Rattle.world_state.specs.Worlds.{Facts, no_kinds, mask_at, has_fact, with_fact, with_facts, absent_along, IsWorld, empty_of}
+use Rattle.world_state.specs.Pages.{nothing_below}
 use Rattle.type_masks.specs.declared.shape.Shape.{Shape}
 use Rattle.world_state.specs.declared.fact.Fact.{Fact}
 use Rattle.world_state.specs.declared.fact.Fact.TheVariants.{In, Live}
@@ -188,24 +189,22 @@ absent_along_none w (f ∷ fs) g is room h =
           (or_cases (same_fact f g) (is_among (absent_along (with_fact w f) fs) g) one)
     ] refl h
 
-abbrev nothing_of : Shape → Kinds
-nothing_of s = record { bound = s.kinds; set = sets.empty }
-
-empty_at : (s : Shape) (slot : ℕ) → (get_or (replicate s.slots (nothing_of s)) slot no_kinds).set ≡ sets.empty
-empty_at s slot =
-    ⊎_elim (λ below. ap (λ (k : Kinds). k.set) (get_or-replicate s.slots slot (nothing_of s) no_kinds below))
-    (λ past. ap (λ (k : Kinds). k.set) (get_or_past (replicate s.slots (nothing_of s)) slot no_kinds (omega (arith, length-replicate s.slots (nothing_of s), past))))
-    (cases_lt slot s.slots)
+-- empty masks have no kind
+pub empty_at : (count bound slot : ℕ) → (get_or (replicate count (nothing_below bound)) slot no_kinds).set ≡ sets.empty
+empty_at count bound slot =
+    ⊎_elim (λ below. ap (λ (k : Kinds). k.set) (get_or-replicate count slot (nothing_below bound) no_kinds below))
+    (λ past. ap (λ (k : Kinds). k.set) (get_or_past (replicate count (nothing_below bound)) slot no_kinds (omega (arith, length-replicate count (nothing_below bound), past))))
+    (cases_lt slot count)
 
 pub none_in_empty : (s : Shape) (f : Fact) → has_fact (empty_of s) f ≡ false
-none_in_empty s (In slot kind) = ap (λ t. sets.contains t kind) (empty_at s slot) ∙ sets.contains-empty nat_cmp kind
+none_in_empty s (In slot kind) = ap (λ t. sets.contains t kind) (empty_at s.slots s.kinds slot) ∙ sets.contains-empty nat_cmp kind
 none_in_empty s (Live m) = sets.contains-empty nat_cmp m
 
 pub world_empty : (s : Shape) → IsWorld (empty_of s)
 world_empty s =
     record {
-      slots = length-replicate s.slots (nothing_of s);
-      bounds = λ slot below. ap (λ (k : Kinds). k.bound) (get_or-replicate s.slots slot (nothing_of s) no_kinds below);
+      slots = length-replicate s.slots (nothing_below s.kinds);
+      bounds = λ slot below. ap (λ (k : Kinds). k.bound) (get_or-replicate s.slots slot (nothing_below s.kinds) no_kinds below);
       inside = λ f h. absurd (true≢false (sym h ∙ none_in_empty s f));
     }
 

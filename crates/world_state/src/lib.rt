@@ -3,6 +3,9 @@
 
 mod fact;
 mod impact;
+mod masks;
+mod page;
+mod page_table;
 mod reads;
 mod snapshot;
 mod world;

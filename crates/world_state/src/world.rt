@@ -1,35 +1,40 @@
 //! Worlds of facts.
-ghost use Rattle.std.specs.Prelude.{◌≡◌, ◌<◌, IfOk, OnOk, OnErr};
+ghost use Rattle.std.specs.Prelude.{◌≡◌, ◌/◌, ◌<◌, IfOk, OnOk, OnErr};
 ghost use Rattle.std.specs.List.{AllByRecursion, list_all};
-ghost use Rattle.world_state.specs.declared.fact.Fact.TheVariants.{Live};
+ghost use Rattle.world_state.specs.declared.fact.Fact.TheVariants.{In, Live};
 ghost use Rattle.world_state.specs.Facts.{InShape};
 ghost use Rattle.world_state.specs.Worlds.{has_fact, mask_at, with_fact, with_facts, absent_of, absent_along, IsWorld, empty_of};
 
 use crate::fact::{Fact, FactList};
+use crate::masks::Masks;
 use crate::snapshot::Snapshot;
 use std::alloc::{AllocError, Global};
 use std::marker::Model;
 use type_masks::{Mask, Shape};
 
+// How many members one mask tells of.
+const BLOCK: u32 = 64;
+
 /// A set of facts that grows: the masks of the shared slots, and the live members.
 #[derive(Drop)]
 pub struct World {
     shape: Shape,
-    masks: Vec<Mask>,
-    live: Mask,
+    masks: Masks,
+    // The live ones of each block of members.
+    live: Masks,
 }
 
 impl Model for World {
-    ghost use Rattle.std.specs.Prelude.{◌≡◌};
-    ghost use Rattle.world_state.specs.Worlds.{Facts, coded_Facts, IsWorld};
+    ghost use Rattle.world_state.specs.Worlds.{Facts, coded_Facts};
+    ghost use Rattle.world_state.specs.Kept.{facts_in, IsKept};
 
     ghost Value = { Facts };
 
     ghost coded = { coded_Facts };
 
-    ghost view = { λ world. record { shape = world.shape; masks = world.masks.items; live = world.live.set } };
+    ghost view = { λ world. facts_in world.shape world.masks world.live };
 
-    ghost invariant = { λ world. IsWorld (record { shape = world.shape; masks = world.masks.items; live = world.live.set }) × (world.live.bound ≡ world.shape.members) };
+    ghost invariant = { λ world. IsKept world.shape world.masks world.live };
 }
 
 impl World {
@@ -37,14 +42,10 @@ impl World {
     pub fn new(alloc: Global, shape: Shape) -> Result<World, AllocError>
         ensures { IfOk result (λ world. world ≡ empty_of shape) }
     {
-        let mut masks = Vec::new(alloc);
-        for _ in 0..shape.slots {
-            masks.push(Mask::new(alloc, shape.kinds))?;
-        }
         Ok(World {
             shape,
-            masks,
-            live: Mask::new(alloc, shape.members),
+            masks: Masks::new(alloc, shape.slots, shape.kinds)?,
+            live: Masks::new(alloc, shape.members.div_ceil(BLOCK), shape.members)?,
         })
     }
 
@@ -61,14 +62,14 @@ impl World {
         requires { slot < self.now.shape.slots }
         ensures { result.now ≡ mask_at self.now slot }
     {
-        &self.masks[slot as usize]
+        self.masks.mask(slot as usize)
     }
 
     /// Whether a member is live.
     pub fn is_live(&self, member: u32) -> bool
         ensures { result ≡ has_fact self.now (Live member) }
     {
-        self.live.has(member)
+        member < self.shape.members && self.live.mask(block_of(member)).has(member)
     }
 
     /// Adds all facts, and answers those that were absent before the call, each once, in order of first place.
@@ -79,11 +80,10 @@ impl World {
         ensures ok { OnOk result (self.new ≡ with_facts self.old facts.now) }
         ensures err { OnErr result (self.new ≡ self.old) }
     {
-        let alloc = *self.masks.allocator();
         if self.has_all(facts.as_slice()) {
-            return Ok(FactList::new(alloc));
+            return Ok(FactList::new(self.masks.alloc()));
         }
-        let mut grown = self.copy()?;
+        let mut grown = self.share()?;
         let added = grow(&mut grown, facts.as_slice())?;
         *self = grown;
         Ok(added)
@@ -93,7 +93,7 @@ impl World {
     pub fn snapshot(&self) -> Result<Snapshot, AllocError>
         ensures { IfOk result (λ snapshot. snapshot ≡ self.now) }
     {
-        Ok(Snapshot::of(self.copy()?))
+        Ok(Snapshot::of(self.share()?))
     }
 
     fn has(&self, fact: Fact) -> bool
@@ -101,8 +101,8 @@ impl World {
         ensures { result ≡ has_fact self.now fact }
     {
         match fact {
-            Fact::In { slot, kind } => self.masks[slot as usize].has(kind),
-            Fact::Live { member } => self.live.has(member),
+            Fact::In { slot, kind } => self.mask(slot).has(kind),
+            Fact::Live { member } => self.is_live(member),
         }
     }
 
@@ -125,31 +125,48 @@ impl World {
         ensures err { OnErr result (self.new ≡ self.old) }
     {
         match fact {
-            Fact::In { slot, kind } => {
-                let mask = &mut self.masks[slot as usize];
-                mask.add(kind)?;
-            }
-            Fact::Live { member } => {
-                self.live.add(member)?;
-            }
+            Fact::In { slot, kind } => self.add_kind(slot, kind),
+            Fact::Live { member } => self.add_member(member),
         }
+    }
+
+    // An `Err` changes nothing.
+    fn add_kind(&mut self, slot: u32, kind: u32) -> Result<(), AllocError>
+        requires { InShape self.old.shape (In slot kind) }
+        ensures ok { OnOk result (self.new ≡ with_fact self.old (In slot kind)) }
+        ensures err { OnErr result (self.new ≡ self.old) }
+    {
+        self.masks.add(slot as usize, kind)?;
         Ok(())
     }
 
-    fn copy(&self) -> Result<World, AllocError>
-        ensures { IfOk result (λ copy. copy ≡ self.now) }
+    // An `Err` changes nothing.
+    fn add_member(&mut self, member: u32) -> Result<(), AllocError>
+        requires { member < self.old.shape.members }
+        ensures ok { OnOk result (self.new ≡ with_fact self.old (Live member)) }
+        ensures err { OnErr result (self.new ≡ self.old) }
     {
-        let alloc = *self.masks.allocator();
-        let mut masks = Vec::with_capacity(alloc, self.masks.len())?;
-        for mask in &self.masks {
-            masks.push(mask.copy()?)?;
-        }
+        self.live.add(block_of(member), member)?;
+        Ok(())
+    }
+
+    // An equal world, which shares all pages.
+    fn share(&self) -> Result<World, AllocError>
+        ensures { IfOk result (λ world. world ≡ self.now) }
+    {
         Ok(World {
             shape: self.shape,
-            masks,
-            live: self.live.copy()?,
+            masks: self.masks.share()?,
+            live: self.live.share()?,
         })
     }
+}
+
+// The block that has the member.
+fn block_of(member: u32) -> usize
+    ensures { result ≡ member / 64 }
+{
+    (member / BLOCK) as usize
 }
 
 // Adds all facts, and answers those that were new. After an `Err` the world may have some of them.
@@ -158,7 +175,7 @@ fn grow(world: &mut World, facts: &[Fact]) -> Result<FactList, AllocError>
     ensures added { IfOk result (λ added. added ≡ absent_along world.old facts.now) }
     ensures ok { OnOk result (world.new ≡ with_facts world.old facts.now) }
 {
-    let mut added = FactList::new(*world.masks.allocator());
+    let mut added = FactList::new(world.masks.alloc());
     for fact in facts {
         if !world.has(*fact) {
             world.add(*fact)?;

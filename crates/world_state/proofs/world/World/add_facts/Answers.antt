@@ -23,4 +23,4 @@ returns-clause-added c =
     c.in_ok-added.ensures.added
     ∙ ap (λ (w : Facts). absent_along w c.as_slice-2.result.now) c.in_ok-grown.ensures
     ∙ ap (absent_along c.args.self.now) c.as_slice-2.ensures
-    ∙ absent_is c.args.self.now c.args.facts.now (subst IsWorld c.self.view_is c.self.invariant.0) c.requires
+    ∙ absent_is c.args.self.now c.args.facts.now (subst IsWorld c.self.view_is c.self.invariant.world) c.requires
