@@ -7,3 +7,6 @@ mod rules;
 
 pub use draw::draw_rules;
 pub use rules::{CopyRules, Rule, SlotCopy};
+
+#[cfg(test)]
+mod tests;
