@@ -4,16 +4,13 @@ use Rattle.std.proofs.lemmas.Bool.Decides.{eqb_tells}
 use Rattle.std.proofs.lemmas.Bool.{cases_lt}
 use Rattle.std.proofs.lemmas.List.{get_or-set_same, get_or-set_other, length-set, get_or-replicate, get_or_past, length-replicate, drop_more}
 use Rattle.std.specs.Prelude.{nat_eq}
-use Rattle.std.specs.List.{AllByRecursion}
 use Rattle.world_state.specs.Worlds.{Facts, IsWorld}
-use Rattle.type_masks.specs.declared.shape.Shape.{Shape}
 use Rattle.world_state.specs.declared.impact.Impact.{Impact}
-use Rattle.enqueuer_core.specs.Least.{Meaning, IsLawful, IsOfShape, IsInShape, IsOneOf}
+use Rattle.enqueuer_core.specs.Least.{Meaning, IsLawful, IsInShape, IsOneOf}
 use Rattle.enqueuer_core.specs.Core.{State, Event, Take, Join, Reclaim, happens, held_by, times, IsState, start}
 use Rattle.enqueuer_core.specs.Desks.{AreOf}
 use Rattle.enqueuer_core.proofs.Kept.{kept, started}
 use Rattle.enqueuer_core.proofs.Idle.{shape_kept, history_of}
-use Rattle.enqueuer_core.proofs.DeskLaws.{pending_member}
 use Rattle.enqueuer.specs.Alone.{IsAlone}
 use Rattle.enqueuer.specs.Lists.{AllOneOf}
 

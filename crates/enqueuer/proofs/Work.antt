@@ -1,12 +1,11 @@
 -- That work is done: each step alone leaves less of it.
 use Rattle.std.proofs.Common.{◌≡◌, ◌≢◌, ℕ, zero, suc, ◌+◌, ◌*◌, ◌<◌, ◌≤◌, Bool, true, false, not, cond, ◌||◌, List, [], ◌∷◌, ◌++◌, length, refl, sym, ap, ◌∙◌, arith, subst, ⊎_elim, get_or, Option, Some, None, nat_eq, length-append}
-use Rattle.std.proofs.lemmas.Bool.{true≢false, eq-eqb, cases_lt}
+use Rattle.std.proofs.lemmas.Bool.{true≢false, eq-eqb}
 use Rattle.std.proofs.lemmas.Bool.Decides.{eqb_tells}
 use Rattle.std.proofs.lemmas.Map.Steps.{length-le_from_distinct_below}
 use Rattle.std.proofs.Math.Nat.{mul-le-mul_right}
-use Rattle.std.specs.Prelude.{nat_eq as same_number}
-use Rattle.std.specs.List.{IsDistinct, AllByRecursion, list_any, list_all}
-use Rattle.type_masks.specs.Masks.{Kinds, has, is_within, is_same}
+use Rattle.std.specs.List.{IsDistinct, AllByRecursion, list_any}
+use Rattle.type_masks.specs.Masks.{Kinds, has, is_same}
 use Rattle.type_masks.specs.declared.shape.Shape.{Shape}
 use Rattle.type_masks.proofs.Sets.{or_true, or_right}
 use Rattle.index_links.specs.Lists.{without_node}
@@ -15,12 +14,12 @@ use Rattle.world_state.specs.declared.fact.Fact.TheVariants.{In, Live}
 use Rattle.world_state.specs.declared.reads.SlotRead.{SlotRead}
 use Rattle.world_state.specs.declared.impact.Impact.{Impact}
 use Rattle.world_state.specs.Facts.{InShape, is_among, same_fact}
-use Rattle.world_state.specs.Worlds.{Facts, has_fact, mask_at, with_facts, absent_of, IsWorld}
+use Rattle.world_state.specs.Worlds.{Facts, has_fact, mask_at, with_facts, absent_of}
 use Rattle.world_state.proofs.WorldFacts.{has_withs, shape_withs, is_same_fact, is_itself, same_within}
 use Rattle.world_state.proofs.Absent.{with_absent, absent_in_shape, absent_none}
 use Rattle.enqueuer_core.specs.Least.{Agrees}
-use Rattle.enqueuer_core.specs.Core.{State, Event, Take, Join, happens, times, how_many, IsState, accepted, all_within, all_same, is_woken, is_awake, is_raised, has_raised, numbers_where, settled_with, returned}
-use Rattle.enqueuer_core.proofs.Counts.{unit, times_without_node}
+use Rattle.enqueuer_core.specs.Core.{State, Take, Join, happens, times, IsState, accepted, all_within, all_same, is_woken, is_raised, has_raised, numbers_where, settled_with, returned}
+use Rattle.enqueuer_core.proofs.Counts.{unit}
 use Rattle.enqueuer_core.proofs.DeskLaws.{pending_member}
 use Rattle.enqueuer.specs.Alone.{sum_below, one_if, missing, work_left}
 

@@ -1,8 +1,8 @@
-use Rattle.std.proofs.Common.{◌≡◌, ◌<◌, ◌∙◌, sym, ap, subst, refl, Some, ℕ}
+use Rattle.std.proofs.Common.{◌≡◌, ◌<◌, ◌∙◌, sym, ap, subst}
 use Rattle.world_state.specs.Worlds.{Facts, IsWorld}
 use Rattle.type_masks.specs.declared.shape.Shape.{Shape}
 use Rattle.world_state.specs.declared.impact.Impact.{Impact}
-use Rattle.enqueuer_core.specs.Core.{State, Take, Join, happens, held_by}
+use Rattle.enqueuer_core.specs.Core.{State, Join, happens, held_by}
 use Rattle.enqueuer_core.specs.Least.{IsInShape, Agrees}
 use Rattle.enqueuer_core.proofs.DeskLaws.{pending_member}
 use Rattle.std.specs.List.{AllByRecursion}

@@ -1,4 +1,4 @@
-use Rattle.std.proofs.Common.{◌≡◌, ◌<◌, ap, ◌∙◌, sym, subst, get_or, length, arith, refl, Vec, Global}
+use Rattle.std.proofs.Common.{◌<◌, ◌∙◌, sym, subst, length, arith, refl, Vec, Global}
 use Rattle.world_state.specs.declared.impact.Impact.{Impact}
 use Rattle.enqueuer_core.specs.Least.{IsOneOf}
 use Rattle.enqueuer.specs.Lists.{AllOneOf}

@@ -1,4 +1,4 @@
-use Rattle.std.proofs.Common.{◌≡◌, ◌∙◌, sym}
+use Rattle.std.proofs.Common.{◌∙◌, sym}
 use Rattle.world_state.proofs.WorldFacts.{same_is}
 use Rattle.enqueuer.proofs.compare.is_same_read.Goals as goal
 

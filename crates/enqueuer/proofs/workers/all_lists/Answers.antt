@@ -1,7 +1,6 @@
-use Rattle.std.proofs.Common.{◌≡◌, ◌<◌, ap, ◌∙◌, sym, subst, get_or, length, arith, refl, Vec, Global, Result, Ok, Err, ℕ, List}
-use Rattle.std.specs.Prelude.{IfOk, vec_len}
-use Rattle.world_state.specs.declared.impact.Impact.{Impact}
-use Rattle.enqueuer.specs.Lists.{AllOneOf, AreAllOf}
+use Rattle.std.proofs.Common.{arith, Result, Ok, Err}
+use Rattle.std.specs.Prelude.{IfOk}
+use Rattle.enqueuer.specs.Lists.{AreAllOf}
 use Rattle.enqueuer.proofs.workers.all_lists.Goals as goal
 
 both : {X E : Type 0} (r : Result X E) (P Q R : X → Type 0) → ((x : X) → P x → Q x → R x) → IfOk r P → IfOk r Q → IfOk r R

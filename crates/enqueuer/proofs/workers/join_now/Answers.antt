@@ -1,4 +1,4 @@
-use Rattle.std.proofs.Common.{◌≡◌, ◌<◌, ◌∙◌, sym, ap, subst, refl}
+use Rattle.std.proofs.Common.{◌<◌, ◌∙◌, sym, subst, refl}
 use Rattle.type_masks.specs.declared.shape.Shape.{Shape}
 use Rattle.enqueuer_core.specs.Least.{IsInShape}
 use Rattle.enqueuer.proofs.Steps.{in_shape}

@@ -1,4 +1,4 @@
-use Rattle.std.proofs.Common.{◌≡◌, ◌<◌, ◌∙◌, sym, ap, subst, refl, List, rules}
+use Rattle.std.proofs.Common.{◌≡◌, ◌<◌, sym, subst, List, rules}
 use Rattle.std.specs.Prelude.{is_ok}
 use Rattle.type_masks.specs.declared.shape.Shape.{Shape}
 use Rattle.world_state.specs.declared.impact.Impact.{Impact}
