@@ -1,0 +1,3 @@
+pub mod Scanning
+pub mod Classes
+pub mod Taking

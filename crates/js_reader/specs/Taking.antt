@@ -1,0 +1,105 @@
+-- What is taken from the front of tokens.
+use Rattle.std.specs.Prelude.{◌≡◌, ◌≤◌, ℕ, ◌^◌, Bool, true, false, ◌&&◌, nat_le, nat_lt, if◌then◌else◌, List, [], ◌∷◌, Option, Some, None, Result, Ok, Err, codes}
+use Rattle.std.specs.Str.{bytes_eq}
+use Rattle.std.specs.Str.Parse.{digits_value}
+use Rattle.std.specs.Fmt.{decimal}
+use Rattle.js_tree.specs.Tokens.{Bytes, Form, Run, Quoted, Sign, Unreadable, Token, Tokens}
+use Rattle.js_tree.specs.Grammar.{Names, is_name, is_among, greatest}
+use Rattle.js_tree.specs.declared.words.JsMember.{JsMember}
+use Rattle.js_tree.specs.declared.words.JsMember.TheVariants as m
+use Rattle.js_tree.specs.declared.words.JsOperator.{JsOperator}
+use Rattle.js_tree.specs.declared.words.JsOperator.TheVariants as o
+use Rattle.js_reader.specs.declared.fault.JsFault.{JsFault}
+use Rattle.js_reader.specs.declared.fault.JsFault.TheVariants.{NotInProfile, Memory}
+
+-- what is read, and the tokens that follow; or the place of the first token that can't be taken on
+abbrev pub Found : Type 0 → Type 0
+Found A = Result (A × Tokens) ℕ
+
+abbrev pub Parser : Type 0 → Type 0
+Parser A = Tokens → Found A
+
+infixl 10 ◌>>=◌
+abbrev pub ◌>>=◌ : {A B : Type 0} → Result A ℕ → (A → Result B ℕ) → Result B ℕ
+(Ok x) >>= f = f x
+(Err at) >>= f = Err at
+
+-- What a function that parses ensures, seen by view: the parser's answer, unless memory ran out.
+abbrev pub Fails : {Y : Type 0} → JsFault → Result Y ℕ → Type 0
+Fails Memory found = Unit {0}
+Fails (NotInProfile at) found = found ≡ Err at
+
+abbrev pub Gives : {X Y : Type 0} → (X → Y) → Result X JsFault → Result Y ℕ → Type 0
+Gives view (Ok x) found = found ≡ Ok (view x)
+Gives view (Err fault) found = Fails fault found
+
+-- ---- the next token
+
+-- where it begins, in a file of this size
+abbrev pub place : ℕ → Tokens → ℕ
+place size [] = size
+place size (t ∷ ts) = t.place.from
+
+abbrev pub is_end : Tokens → Bool
+is_end [] = true
+is_end (t ∷ ts) = false
+
+-- whether a line ends before it
+abbrev pub on_new_line : Tokens → Bool
+on_new_line [] = false
+on_new_line (t ∷ ts) = t.place.on_new_line
+
+abbrev pub sign_by : Form → Bytes
+sign_by (Sign text) = text
+sign_by _ = []
+
+abbrev pub word_by : Form → Bytes
+word_by (Run text) = text
+word_by _ = []
+
+abbrev pub string_by : Form → Option (List ℕ)
+string_by (Quoted us) = Some us
+string_by _ = None
+
+-- its bytes, if it is a sign
+abbrev pub sign_of : Tokens → Bytes
+sign_of [] = []
+sign_of (t ∷ ts) = sign_by t.form
+
+-- its bytes, if it is a run
+abbrev pub word_of : Tokens → Bytes
+word_of [] = []
+word_of (t ∷ ts) = word_by t.form
+
+-- its units, if it is a string
+abbrev pub string_of : Tokens → Option (List ℕ)
+string_of [] = None
+string_of (t ∷ ts) = string_by t.form
+
+abbrev pub behind : Tokens → Tokens
+behind [] = []
+behind (t ∷ ts) = ts
+
+abbrev pub is_some_text : Bytes → Bool
+is_some_text [] = false
+is_some_text (b ∷ bs) = true
+
+-- what follows the sign at the front, if there is one
+unfoldable pub after_sign : Tokens → Tokens
+after_sign ts = if is_some_text (sign_of ts) then behind ts else ts
+
+-- what follows the run at the front, if there is one
+unfoldable pub after_word : Tokens → Tokens
+after_word ts = if is_some_text (word_of ts) then behind ts else ts
+
+abbrev pub sign_is : Bytes → Tokens → Bool
+sign_is text ts = bytes_eq (sign_of ts) text
+
+abbrev pub word_is : Bytes → Tokens → Bool
+word_is text ts = bytes_eq (word_of ts) text
+
+-- ---- numbers, members and operators
+
+-- the number whose decimal digits these are
+unfoldable pub number_of : Bytes → Option ℕ
+number_of text = if nat_le (digits_value 10 text) greatest && bytes_eq text (decimal (digits_value 10 text)) then Some (digits_value 10 text) else None

@@ -1,0 +1,8 @@
+//! The tree that bytes spell, of the JavaScript subset.
+#![tactic(auto)]
+
+mod bytes;
+mod fault;
+mod strings;
+
+pub use fault::JsFault;
