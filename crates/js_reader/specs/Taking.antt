@@ -1,5 +1,5 @@
 -- What is taken from the front of tokens.
-use Rattle.std.specs.Prelude.{◌≡◌, ◌≤◌, ℕ, ◌^◌, Bool, true, false, ◌&&◌, nat_le, nat_lt, if◌then◌else◌, List, [], ◌∷◌, Option, Some, None, Result, Ok, Err, codes}
+use Rattle.std.specs.Prelude.{◌≡◌, ◌≤◌, ℕ, ◌^◌, Bool, true, false, not, ◌&&◌, nat_le, nat_lt, if◌then◌else◌, List, [], ◌∷◌, Option, Some, None, Result, Ok, Err, codes}
 use Rattle.std.specs.Str.{bytes_eq}
 use Rattle.std.specs.Str.Parse.{digits_value}
 use Rattle.std.specs.Fmt.{decimal}
@@ -39,6 +39,10 @@ Gives view (Err fault) found = Fails fault found
 abbrev pub place : ℕ → Tokens → ℕ
 place size [] = size
 place size (t ∷ ts) = t.place.from
+
+-- what is answered where it can't be taken on
+abbrev pub refused : ℕ → Tokens → JsFault
+refused size ts = NotInProfile (place size ts)
 
 abbrev pub is_end : Tokens → Bool
 is_end [] = true
@@ -103,3 +107,68 @@ word_is text ts = bytes_eq (word_of ts) text
 -- the number whose decimal digits these are
 unfoldable pub number_of : Bytes → Option ℕ
 number_of text = if nat_le (digits_value 10 text) greatest && bytes_eq text (decimal (digits_value 10 text)) then Some (digits_value 10 text) else None
+
+abbrev pub member_of : Bytes → Option JsMember
+member_of x =
+    if bytes_eq x (codes "length") then Some m.Length
+    else (if bytes_eq x (codes "size") then Some m.Size
+    else (if bytes_eq x (codes "push") then Some m.Push
+    else (if bytes_eq x (codes "pop") then Some m.Pop
+    else (if bytes_eq x (codes "charCodeAt") then Some m.CharCodeAt
+    else (if bytes_eq x (codes "substring") then Some m.Substring
+    else (if bytes_eq x (codes "get") then Some m.Get
+    else (if bytes_eq x (codes "set") then Some m.Set
+    else (if bytes_eq x (codes "has") then Some m.Has
+    else (if bytes_eq x (codes "delete") then Some m.Delete
+    else (if bytes_eq x (codes "keys") then Some m.Keys
+    else (if bytes_eq x (codes "print") then Some m.Print
+    else (if bytes_eq x (codes "load") then Some m.Load
+    else None))))))))))))
+
+abbrev pub operator_of : Bytes → Option JsOperator
+operator_of x =
+    if bytes_eq x (codes "+") then Some o.Plus
+    else (if bytes_eq x (codes "-") then Some o.Minus
+    else (if bytes_eq x (codes "*") then Some o.Times
+    else (if bytes_eq x (codes "/") then Some o.Divide
+    else (if bytes_eq x (codes "%") then Some o.Remainder
+    else (if bytes_eq x (codes "===") then Some o.Equal
+    else (if bytes_eq x (codes "<") then Some o.Less
+    else (if bytes_eq x (codes ">") then Some o.Greater
+    else (if bytes_eq x (codes "<=") then Some o.LessEqual
+    else (if bytes_eq x (codes ">=") then Some o.GreaterEqual
+    else None)))))))))
+
+-- ---- the next token, taken in a file of this size
+
+-- this sign
+unfoldable pub expect : ℕ → Bytes → Tokens → Result Tokens ℕ
+expect size text ts = if sign_is text ts then Ok (after_sign ts) else Err (place size ts)
+
+-- this word
+unfoldable pub expect_word : ℕ → Bytes → Tokens → Result Tokens ℕ
+expect_word size text ts = if word_is text ts then Ok (after_word ts) else Err (place size ts)
+
+-- nothing, but on the line of the token before
+unfoldable pub on_line : ℕ → Tokens → Result Tokens ℕ
+on_line size ts = if on_new_line ts then Err (place size ts) else Ok ts
+
+unfoldable pub name_at : ℕ → Parser Bytes
+name_at size ts = if is_name (word_of ts) then Ok (word_of ts, after_word ts) else Err (place size ts)
+
+-- a name that is none of these
+unfoldable pub fresh_name : ℕ → Names → Parser Bytes
+fresh_name size names ts = if is_name (word_of ts) && not (is_among names (word_of ts)) then Ok (word_of ts, after_word ts) else Err (place size ts)
+
+abbrev pub found_by : {A : Type 0} → ℕ → Option A → Tokens → Tokens → Found A
+found_by size None ts rest = Err (place size ts)
+found_by size (Some x) ts rest = Ok (x, rest)
+
+unfoldable pub number_at : ℕ → Parser ℕ
+number_at size ts = found_by size (number_of (word_of ts)) ts (after_word ts)
+
+unfoldable pub member_at : ℕ → Parser JsMember
+member_at size ts = found_by size (member_of (word_of ts)) ts (after_word ts)
+
+unfoldable pub string_at : ℕ → Parser (List ℕ)
+string_at size ts = found_by size (string_of ts) ts (behind ts)

@@ -3,6 +3,7 @@
 
 mod bytes;
 mod fault;
+mod source;
 mod strings;
 
 pub use fault::JsFault;
