@@ -1,3 +1,5 @@
 pub mod Fronts
 pub mod Turns
 pub mod Scanned
+pub mod Digits
+pub mod Named

@@ -2,8 +2,9 @@
 use Rattle.std.proofs.Common.{◌≡◌, ℕ, zero, suc, ◌+◌, ◌-◌, ◌<◌, ◌≤◌, Bool, true, false, cond, List, [], ◌∷◌, ◌++◌, length, take, drop, Option, Some, None, refl, sym, ap, ◌∙◌, subst, inl, inr, arith}
 use Rattle.std.specs.Prelude.{not, ◌&&◌, ◌||◌, ◌==◌}
 use Rattle.std.proofs.lemmas.List.{length-drop}
+use Rattle.std.proofs.lemmas.Bool.{eqb-true}
 use Rattle.js_tree.specs.Tokens.{Bytes, is_part, is_blank, is_plain, is_hex, ends_line, Form, Run, Quoted, Sign, Unreadable, Token, Tokens}
-use Rattle.js_reader.specs.Scanning.{front, back, line_ends, begins, length_from, sign_length, unit_of, hexadecimal, escaped, unit_at, and_then, units_from, string_form, sign_form, form_at, first, tokens_from, tokens_of}
+use Rattle.js_reader.specs.Scanning.{front, back, line_ends, begins, length_from, sign_length, unit_of, hexadecimal, escaped, unit_at, and_then, units_from, quoted, string_form, sign_form, form_at, first, tokens_from, tokens_of}
 use Rattle.js_reader.specs.Taking.{place, is_end, on_new_line, word_of, sign_of, string_of, word_by, sign_by, string_by, behind, is_some_text, after_word, after_sign}
 use Rattle.js_reader.proofs.Fronts.{tells, clash, back_shorter}
 
@@ -314,3 +315,69 @@ pub sign_taken : (size : ℕ) (bs : Bytes) (c : ℕ) (more : Bytes) → take (si
 unfolding after_sign
 sign_taken size bs c more e =
     after_by (sign_of (tokens_of size bs)) (behind (tokens_of size bs)) (tokens_of size bs) c more (sign_is size bs ∙ e) ∙ sign_rest size bs (back is_blank bs) c more refl e
+
+-- ---- strings
+
+string_of_form : (o : Option (List ℕ × Bytes)) (x : List ℕ × Bytes) → o ≡ Some x → (string_by (string_form o).0 ≡ Some x.0) × ((string_form o).1 ≡ x.1)
+string_of_form None x e = absurd cc
+string_of_form (Some y) x e = let is = some_is y x e in (ap (λ (z : List ℕ × Bytes). Some z.0) is, ap (λ (z : List ℕ × Bytes). z.1) is)
+
+no_string_form : (o : Option (List ℕ × Bytes)) → o ≡ None → string_by (string_form o).0 ≡ None
+no_string_form None e = refl
+no_string_form (Some y) e = absurd cc
+
+quote_begins : (b : ℕ) (bs : Bytes) (x : List ℕ × Bytes) → quoted (b ∷ bs) ≡ Some x → ((b == 34) ≡ true) × (units_from (length bs) [] bs ≡ Some x)
+unfolding quoted
+quote_begins b bs x e = by (b == 34) e where
+  by : (t : Bool) → cond t (units_from (length bs) [] bs) None ≡ Some x → (t ≡ true) × (units_from (length bs) [] bs ≡ Some x)
+  by true is = (refl, is)
+  by false is = absurd cc
+
+quote_none : (b : ℕ) (bs : Bytes) → quoted (b ∷ bs) ≡ None → (b == 34) ≡ true → units_from (length bs) [] bs ≡ None
+unfolding quoted
+quote_none b bs e q = by (b == 34) e q where
+  by : (t : Bool) → cond t (units_from (length bs) [] bs) None ≡ None → t ≡ true → units_from (length bs) [] bs ≡ None
+  by true is t = is
+  by false is t = absurd cc
+
+no_quote_part : (b : ℕ) → (b == 34) ≡ true → is_part b ≡ false
+no_quote_part b e = let is = eqb-true b 34 e in ap is_part is
+
+quote_none_left : (x : List ℕ × Bytes) → quoted [] ≡ Some x → ⊥
+unfolding quoted
+quote_none_left x e = cc
+
+string_form_read : (b : ℕ) (bs : Bytes) (x : List ℕ × Bytes) → quoted (b ∷ bs) ≡ Some x → (string_by (form_at (b ∷ bs)).0 ≡ Some x.0) × ((form_at (b ∷ bs)).1 ≡ x.1)
+string_form_read b bs x e =
+    let q = quote_begins b bs x e in
+    let form = form_string b bs (no_quote_part b q.0) q.0 in
+    let of = string_of_form (units_from (length bs) [] bs) x q.1 in
+    (ap (λ (f : Form × Bytes). string_by f.0) form ∙ of.0, ap (λ (f : Form × Bytes). f.1) form ∙ of.1)
+
+string_form_none : (b : ℕ) (bs : Bytes) → quoted (b ∷ bs) ≡ None → string_by (form_at (b ∷ bs)).0 ≡ None
+string_form_none b bs e = elim (tells (b == 34)) [
+    | inl q ↦ ap (λ (f : Form × Bytes). string_by f.0) (form_string b bs (no_quote_part b q) q) ∙ no_string_form (units_from (length bs) [] bs) (quote_none b bs e q)
+    | inr q ↦ elim (tells (is_part b)) [
+      | inl p ↦ ap (λ (f : Form × Bytes). string_by f.0) (form_run b bs p)
+      | inr p ↦ ap (λ (f : Form × Bytes). string_by f.0) (form_sign b bs p q) ∙ sign_no_string (sign_length (b ∷ bs)) (b ∷ bs)
+    ]
+  ]
+
+no_string_first : (size : ℕ) (p : Bytes → Tokens) (line : Bool) (bs : Bytes) → quoted bs ≡ None → string_of (first p size line bs) ≡ None
+no_string_first size p line [] e = refl
+no_string_first size p line (b ∷ bs) e = string_form_none b bs e
+
+pub no_string : (size : ℕ) (bs : Bytes) → quoted (back is_blank bs) ≡ None → string_of (tokens_of size bs) ≡ None
+no_string size bs e = ap string_of (tokens_step size bs) ∙ no_string_first size (λ rest. tokens_of size rest) (line_ends false bs) (back is_blank bs) e
+
+string_first : (size : ℕ) (line : Bool) (bs : Bytes) (x : List ℕ × Bytes) → quoted bs ≡ Some x
+    → (string_of (first (λ r. tokens_of size r) size line bs) ≡ Some x.0) × (behind (first (λ r. tokens_of size r) size line bs) ≡ tokens_of size x.1)
+string_first size line [] x e = absurd (quote_none_left x e)
+string_first size line (b ∷ bs) x e = let h = string_form_read b bs x e in (h.0, ap (λ (r : Bytes). tokens_of size r) h.1)
+
+pub string_read : (size : ℕ) (bs : Bytes) (us : List ℕ) (rest : Bytes) → quoted (back is_blank bs) ≡ Some (us, rest)
+    → (string_of (tokens_of size bs) ≡ Some us) × (behind (tokens_of size bs) ≡ tokens_of size rest)
+string_read size bs us rest e =
+    let h = string_first size (line_ends false bs) (back is_blank bs) (us, rest) e in
+    let step = tokens_step size bs in
+    (ap string_of step ∙ h.0, ap behind step ∙ h.1)

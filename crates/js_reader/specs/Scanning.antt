@@ -69,6 +69,10 @@ unfoldable pub units_from : ℕ → List ℕ → Bytes → Option (List ℕ × B
 units_from zero found bs = None
 units_from (suc n) found bs = if begins 34 bs then Some (found, drop 1 bs) else and_then (unit_at bs) (λ u rest. units_from n (found ++ u ∷ []) rest)
 
+-- the units of the string that the bytes begin with, and what follows it
+unfoldable pub quoted : Bytes → Option (List ℕ × Bytes)
+quoted bs = if begins 34 bs then units_from (length (drop 1 bs)) [] (drop 1 bs) else None
+
 -- ---- tokens
 
 abbrev pub string_form : Option (List ℕ × Bytes) → Form × Bytes

@@ -104,9 +104,16 @@ word_is text ts = bytes_eq (word_of ts) text
 
 -- ---- numbers, members and operators
 
--- the number whose decimal digits these are
-unfoldable pub number_of : Bytes → Option ℕ
-number_of text = if nat_le (digits_value 10 text) greatest && bytes_eq text (decimal (digits_value 10 text)) then Some (digits_value 10 text) else None
+-- the number below 2^64 whose decimal digits these are, without a leading zero
+unfoldable pub whole_of : Bytes → Option ℕ
+whole_of text = if nat_lt (digits_value 10 text) (2 ^ 64) && bytes_eq text (decimal (digits_value 10 text)) then Some (digits_value 10 text) else None
+
+abbrev pub limited : Option ℕ → Option ℕ
+limited None = None
+limited (Some n) = if nat_le n greatest then Some n else None
+
+abbrev pub number_of : Bytes → Option ℕ
+number_of text = limited (whole_of text)
 
 abbrev pub member_of : Bytes → Option JsMember
 member_of x =
@@ -172,3 +179,8 @@ member_at size ts = found_by size (member_of (word_of ts)) ts (after_word ts)
 
 unfoldable pub string_at : ℕ → Parser (List ℕ)
 string_at size ts = found_by size (string_of ts) ts (behind ts)
+
+-- the names with this one, if it is fresh
+abbrev pub added : Bool → Bytes → Names → Names
+added true x names = x ∷ names
+added false x names = names

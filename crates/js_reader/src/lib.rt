@@ -3,7 +3,10 @@
 
 mod bytes;
 mod fault;
+mod names;
+mod numbers;
 mod source;
 mod strings;
+mod words;
 
 pub use fault::JsFault;

@@ -75,7 +75,7 @@ fn unit(bytes: &[u8]) -> Option<(u16, &[u8])>
 
 /// The units of a string behind its first quote, and what follows its last one.
 #[tactic(auto, using(crate::proofs::Turns::one_turn, crate::proofs::Turns::no_turn), unfolding(crate::specs::Scanning::units_from))]
-pub fn units(alloc: Global, bytes: &[u8]) -> Result<Option<(Items<u16>, &[u8])>, AllocError>
+fn units(alloc: Global, bytes: &[u8]) -> Result<Option<(Items<u16>, &[u8])>, AllocError>
     ensures { IfOk result (λ found. option_map (λ x. (x.0, x.1.now)) found ≡ spec.units_from (length bytes.now) [] bytes.now) }
 {
     let mut found = Items::new(alloc);
@@ -91,4 +91,15 @@ pub fn units(alloc: Global, bytes: &[u8]) -> Result<Option<(Items<u16>, &[u8])>,
         rest = after;
     }
     Ok(None)
+}
+
+/// The units of the string that the bytes begin with, and what follows it.
+#[tactic(auto, unfolding(crate::specs::Scanning::quoted))]
+pub fn quoted(alloc: Global, bytes: &[u8]) -> Result<Option<(Items<u16>, &[u8])>, AllocError>
+    ensures { IfOk result (λ found. option_map (λ x. (x.0, x.1.now)) found ≡ spec.quoted bytes.now) }
+{
+    if !begins(b'"', bytes) {
+        return Ok(None);
+    }
+    units(alloc, &bytes[1..])
 }
