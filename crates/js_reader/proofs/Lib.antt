@@ -3,3 +3,4 @@ pub mod Turns
 pub mod Scanned
 pub mod Digits
 pub mod Named
+pub mod Aimed

@@ -1,3 +1,5 @@
 pub mod Scanning
 pub mod Classes
 pub mod Taking
+pub mod Parsing
+pub mod Nests

@@ -3,10 +3,12 @@
 
 mod bytes;
 mod fault;
+mod grammar;
 mod names;
 mod numbers;
 mod source;
 mod strings;
+mod targets;
 mod words;
 
 pub use fault::JsFault;
