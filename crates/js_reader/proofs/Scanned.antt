@@ -10,7 +10,7 @@ use Rattle.js_reader.proofs.Fronts.{tells, clash, back_shorter}
 
 -- ---- a token takes a byte
 
-some_is : {A : Type 0} (x y : A) → (let s : A → Option A = Some in s x ≡ s y) → x ≡ y
+pub some_is : {A : Type 0} (x y : A) → (let s : A → Option A = Some in s x ≡ s y) → x ≡ y
 some_is x y h = cc
 
 hexadecimal_shorter : (bs : Bytes) (u : ℕ × Bytes) → hexadecimal bs ≡ Some u → length u.1 < length bs
@@ -223,11 +223,11 @@ or_second : (x y : Bool) → y ≡ true → (x || y) ≡ true
 or_second true y e = refl
 or_second false y e = e
 
-not_first : (x y : Bool) → (x || y) ≡ false → x ≡ false
+pub not_first : (x y : Bool) → (x || y) ≡ false → x ≡ false
 not_first true y e = absurd cc
 not_first false y e = refl
 
-not_second : (x y : Bool) → (x || y) ≡ false → y ≡ false
+pub not_second : (x y : Bool) → (x || y) ≡ false → y ≡ false
 not_second true y e = absurd cc
 not_second false y e = e
 

@@ -3,3 +3,4 @@ pub mod Classes
 pub mod Taking
 pub mod Parsing
 pub mod Nests
+pub mod Faults

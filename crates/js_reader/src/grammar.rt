@@ -463,7 +463,7 @@ impl<
     #[tactic(auto, using(crate::proofs::Turns::one_turn, crate::proofs::Turns::no_turn), unfolding(crate::specs::Parsing::stmts_from))]
     fn stmts<'t>(&self, names: Declared<'t>, bytes: &'t [u8]) -> Result<(Items<JsStmt>, &'t [u8]), JsFault>
         requires { Nests self.now.depth (E.pre self.now.expr) (E.post self.now.expr) (S.pre self.now.stmt) (S.post self.now.stmt) }
-        ensures { Gives (λ x. (x.0, tokens_of self.now.source.size x.1.now)) result (spec.stmts_from self.now.source.size self.now.turns (spec.expr_at self.now.source.size self.now.depth) (spec.stmt_at self.now.source.size self.now.depth) self.now.turns names [] (tokens_of self.now.source.size bytes.now)) }
+        ensures { Gives (λ x. (x.0, tokens_of self.now.source.size x.1.now)) result (spec.stmts_from self.now.source.size self.now.turns (spec.expr_at self.now.source.size self.now.depth) (spec.stmt_at self.now.source.size self.now.depth) self.now.turns names.entry [] (tokens_of self.now.source.size bytes.now)) }
     {
         let mut found = Items::new(self.source.alloc);
         let mut names = names;
@@ -483,7 +483,7 @@ impl<
     #[tactic(auto, unfolding(crate::specs::Parsing::block))]
     fn block<'t>(&self, names: Declared<'t>, bytes: &'t [u8]) -> Result<(Items<JsStmt>, &'t [u8]), JsFault>
         requires { Nests self.now.depth (E.pre self.now.expr) (E.post self.now.expr) (S.pre self.now.stmt) (S.post self.now.stmt) }
-        ensures { Gives (λ x. (x.0, tokens_of self.now.source.size x.1.now)) result (spec.block self.now.source.size self.now.turns (spec.expr_at self.now.source.size self.now.depth) (spec.stmt_at self.now.source.size self.now.depth) names (tokens_of self.now.source.size bytes.now)) }
+        ensures { Gives (λ x. (x.0, tokens_of self.now.source.size x.1.now)) result (spec.block self.now.source.size self.now.turns (spec.expr_at self.now.source.size self.now.depth) (spec.stmt_at self.now.source.size self.now.depth) names.entry (tokens_of self.now.source.size bytes.now)) }
     {
         let after = self.source.expect(b"{", bytes)?;
         self.stmts(names, after)
