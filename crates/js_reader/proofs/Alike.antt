@@ -30,7 +30,7 @@ same_middle names xs x before h o = h o ∙ middle xs x before o
 pub same_more : (a b : Names) (x : Bytes) → IsSame a b → IsSame (x ∷ a) (x ∷ b)
 same_more a b x h o = ap (λ (t : Bool). bytes_eq o x || t) (h o)
 
-same_stmt : (a b : Names) {stmt : JsStmt} {ts rest : Tokens} → IsSame a b → IsStmt a ts stmt rest → IsStmt b ts stmt rest × IsSame (declared stmt a) (declared stmt b)
+pub same_stmt : (a b : Names) {stmt : JsStmt} {ts rest : Tokens} → IsSame a b → IsStmt a ts stmt rest → IsStmt b ts stmt rest × IsSame (declared stmt a) (declared stmt b)
 same_stmt a b h (g.let' {x = x} n f d) = (g.let' n (sym (h x) ∙ f) d, same_more a b x h)
 same_stmt a b h (g.assign n d) = (g.assign n d, h)
 same_stmt a b h (g.store c d x y) = (g.store c d x y, h)

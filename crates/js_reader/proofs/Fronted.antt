@@ -258,7 +258,7 @@ number_same size n p ts h =
     ap (λ o. found_by size o (word (decimal n) p ∷ ts) (after_word (word (decimal n) p ∷ ts))) (digits_found n h)
     ∙ ap (λ (r : Tokens). Ok (n, r)) (some_after (decimal n) p ts (number_some (decimal n) n (digits_found n h)))
 
-member_found : (m : JsMember) → member_of (member_text m) ≡ Some m
+pub member_found : (m : JsMember) → member_of (member_text m) ≡ Some m
 member_found mm.Length = refl
 member_found mm.Size = refl
 member_found mm.Push = refl

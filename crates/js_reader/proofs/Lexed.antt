@@ -438,3 +438,9 @@ are_tokens size bs = subst (λ (ts : Tokens). AreTokens size false bs ts) (sym (
 
 pub only_tokens : (size : ℕ) (bs : Bytes) (ts : Tokens) → AreTokens size false bs ts → ts ≡ tokens_of size bs
 only_tokens size bs ts d = read_alone d ∙ sym (tokens_step size bs)
+
+-- a token takes a byte at least
+pub token_shorter : {bs rest : Bytes} {form : Form} → IsToken bs form rest → length rest < length bs
+token_shorter {bs} {rest} {form} d =
+    let r = token_reads d in
+    omega (arith, form_shorter r.head r.others, ap (λ (f : Form × Bytes). length f.1) r.read, ap (λ (x : Bytes). length x) r.is)

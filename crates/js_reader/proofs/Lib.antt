@@ -10,3 +10,5 @@ pub mod Aimed
 pub mod Sound
 pub mod Firsts
 pub mod Steps
+pub mod Complete
+pub mod Exact

@@ -30,7 +30,7 @@ use Rattle.js_reader.specs.declared.targets.Target.TheVariants as t
 use Rattle.js_reader.specs.Taking.{Found, Parser, ◌>>=◌, place, on_new_line, is_end, sign_of, word_of, after_sign, after_word, sign_is, word_is, operator_of, expect, expect_word, on_line, name_at, fresh_name, number_at, member_at, string_at}
 use Rattle.js_reader.specs.Parsing as p
 use Rattle.js_reader.specs.Parsing.{literal_of, selects, expr_at, stmt_at}
-use Rattle.js_reader.proofs.Fronted.{expect_same, expect_word_same, after_sign_same, after_word_same, name_same, fresh_same, number_same, member_same, member_found, operator_found, operator_after, string_same, next_is_sign, bytes_refl}
+use Rattle.js_reader.proofs.Fronted.{expect_same, expect_word_same, after_sign_same, after_word_same, name_same, fresh_same, number_same, member_same, operator_found, operator_after, string_same, next_is_sign, bytes_refl}
 use Rattle.js_reader.proofs.Fronts.{clash}
 use Rattle.js_reader.proofs.Digits.{bytes_same}
 use Rattle.js_reader.proofs.Firsts as f
@@ -73,7 +73,7 @@ parameters_complete (g.parameters {xs = xs} {p = q} {q = r} {ts = ts} {rest = re
 
 other_name : (x w : Bytes) → is_name x ≡ true → is_name w ≡ false → bytes_eq x w ≡ false
 other_name x w m k = by (bytes_eq x w) refl where
-  pub by : (b : Bool) → bytes_eq x w ≡ b → b ≡ false
+  by : (b : Bool) → bytes_eq x w ≡ b → b ≡ false
   by false e = refl
   by true e = absurd (clash m (ap is_name (bytes_same x w e) ∙ k))
 
@@ -96,7 +96,7 @@ number_starts n k = let d = f.digit_first n k in ap starts_digit d.2 ∙ d.3
 
 other_number : (n : ℕ) (w : Bytes) → n ≤ greatest → starts_digit w ≡ false → bytes_eq (decimal n) w ≡ false
 other_number n w k m = by (bytes_eq (decimal n) w) refl where
-  pub by : (b : Bool) → bytes_eq (decimal n) w ≡ b → b ≡ false
+  by : (b : Bool) → bytes_eq (decimal n) w ≡ b → b ≡ false
   by false e = refl
   by true e = absurd (clash (number_starts n k) (ap starts_digit (bytes_same (decimal n) w e) ∙ m))
 
@@ -214,14 +214,28 @@ module _ (size turns : ℕ) (expr : Parser JsExpr) (stmt : Parser JsStmt) where
   unfolding p.selectors_from
   selectors_none n found ts k = rw (k, append-nil found) refl
 
-  pub selectors_more : (n : ℕ) (found xs : List JsSelector) (x : JsSelector) (ts mid rest : Tokens) → selects (sign_of ts) ≡ true → p.selector size turns expr stmt ts ≡ Ok (x, mid)
-      → p.selectors_from size turns expr stmt n (found ++ x ∷ []) mid ≡ Ok ((found ++ x ∷ []) ++ xs, rest) → p.selectors_from size turns expr stmt (suc n) found ts ≡ Ok (found ++ x ∷ xs, rest)
+  pub selectors_on : (n : ℕ) (found : List JsSelector) (x : JsSelector) (ts mid : Tokens) (r : Found (List JsSelector)) → selects (sign_of ts) ≡ true → p.selector size turns expr stmt ts ≡ Ok (x, mid)
+      → p.selectors_from size turns expr stmt n (found ++ x ∷ []) mid ≡ r → p.selectors_from size turns expr stmt (suc n) found ts ≡ r
   unfolding p.selectors_from
-  selectors_more n found xs x ts mid rest m k c = rw (m, k, c, append_assoc found (x ∷ []) xs) refl
+  selectors_on n found x ts mid r m k c = rw (m, k) c
 
   pub index_step : (a : JsExpr) (q r : Place) (ts mid : Tokens) → expr ts ≡ Ok (a, sign (codes "]") r ∷ mid) → p.selector size turns expr stmt (sign (codes "[") q ∷ ts) ≡ Ok (l.Index a, mid)
   unfolding p.selector p.index
   index_step a q r ts mid k = rw (after_sign_same 91 [] q ts, k, expect_same size 93 [] r mid) refl
+
+  pub selectors_last : (xs : List JsSelector) (rest : Tokens) → selects (sign_of rest) ≡ false → (turn : ℕ) → length rest < turn → p.selectors_from size turns expr stmt turn xs rest ≡ Ok (xs, rest)
+  unfolding p.selectors_from
+  selectors_last xs rest c zero l = absurd (omega arith)
+  selectors_last xs rest c (suc turn) l = rw c refl
+
+  -- an index, and no other selector behind it
+  pub index_last : (xs : List JsSelector) (b : JsExpr) (q r : Place) (after rest : Tokens) → expr after ≡ Ok (b, sign (codes "]") r ∷ rest) → selects (sign_of rest) ≡ false
+      → (turn : ℕ) → length (sign (codes "[") q ∷ after) < turn → p.selectors_from size turns expr stmt turn xs (sign (codes "[") q ∷ after) ≡ Ok (xs ++ l.Index b ∷ [], rest)
+  index_last xs b q r after rest k c zero m = absurd (omega arith)
+  index_last xs b q r after rest k c (suc zero) m = absurd (omega arith)
+  index_last xs b q r after rest k c (suc (suc turn)) m =
+      selectors_on (suc turn) xs (l.Index b) (sign (codes "[") q ∷ after) rest (Ok (xs ++ l.Index b ∷ [], rest)) refl (index_step b q r after rest k)
+        (selectors_none turn (xs ++ l.Index b ∷ []) rest c ∙ ap (λ (ys : List JsSelector). Ok (ys, rest)) (append-nil (xs ++ l.Index b ∷ [])))
 
   pub call_step : (xs : List JsExpr) (q : Place) (ts mid : Tokens) → p.arguments size turns expr stmt (sign (codes "(") q ∷ ts) ≡ Ok (xs, mid) → p.selector size turns expr stmt (sign (codes "(") q ∷ ts) ≡ Ok (l.Call xs, mid)
   unfolding p.selector p.call

@@ -36,8 +36,10 @@ pub fn read_file(alloc: Global, bytes: &[u8]) -> Result<JsFile, JsFault>
     ensures found { IfOk result (λ file. IsSpelled bytes.now file) }
     ensures fault { IfErr result (λ fault. IsFaultOf bytes.now fault) }
 {
-    let items = items_of(alloc, bytes)?;
-    Ok(JsFile { items })
+    match items_of(alloc, bytes) {
+        Ok(items) => Ok(JsFile { items }),
+        Err(fault) => Err(fault),
+    }
 }
 
 /// A law: bytes have exactly one list of tokens.
