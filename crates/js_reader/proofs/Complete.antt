@@ -74,7 +74,7 @@ module _ (size : ℕ) where
       → p.simple size (suc n) (expr_at size n) (stmt_at size n) ts ≡ Ok (a, rest) → p.named_stmt size t (expr_at size (suc n)) (stmt_at size (suc n)) others ts ≡ Ok ((a, declared a others), rest)
   simple n t others a ts rest absent e k =
       other n t others a ts rest (absent 108 (codes "et") refl) e
-        (u.simple_step size (suc n) (expr_at size n) (stmt_at size n) ts (Ok (a, rest)) (absent 105 (codes "f") refl) (absent 114 (codes "eturn") refl) (absent 119 (codes "hile") refl) (absent 98 (codes "reak") refl) (absent 116 (codes "hrow") refl) (absent 116 (codes "ry") refl) k)
+      (u.simple_step size (suc n) (expr_at size n) (stmt_at size n) ts (Ok (a, rest)) (absent 105 (codes "f") refl) (absent 114 (codes "eturn") refl) (absent 119 (codes "hile") refl) (absent 98 (codes "reak") refl) (absent 116 (codes "hrow") refl) (absent 116 (codes "ry") refl) k)
 
   -- a name alone
   name_alone : (n : ℕ) (x : Bytes) (q : Place) (rest : Tokens) → is_name x ≡ true → selects (sign_of rest) ≡ false → p.primary size (suc n) (expr_at size n) (stmt_at size n) (word x q ∷ rest) ≡ Ok (record { head = H.Name x; selectors = [] }, rest)
@@ -88,7 +88,7 @@ module _ (size : ℕ) where
     exprs_complete (g.more_exprs d x) t n zero found k m c w = absurd (omega (arith, f.expr_shrinks d))
     exprs_complete (g.more_exprs {a = a} {xs = xs} {p = q} {ts = ts} {mid = mid} {rest = rest} d x) t n (suc turns) found k m c w =
         u.exprs_more size t (expr_at size n) (stmt_at size n) turns found xs a q ts mid rest (expr_complete d n k (record { no_selector = refl; no_operator = refl }))
-          (exprs_complete x t n turns (found ++ a ∷ []) (omega (arith, f.expr_shrinks d)) (omega (arith, f.expr_shrinks d)) c w)
+        (exprs_complete x t n turns (found ++ a ∷ []) (omega (arith, f.expr_shrinks d)) (omega (arith, f.expr_shrinks d)) c w)
 
     pub round_complete : {xs : List JsExpr} {ts rest : Tokens} → AreListed (codes ")") ts xs rest → (t n : ℕ) → length ts < n → length ts ≤ t → p.listed size t (expr_at size n) (stmt_at size n) (codes ")") ts ≡ Ok (xs, rest)
     round_complete (g.no_items {p = q} {rest = rest}) t n k m = u.listed_none size t (expr_at size n) (stmt_at size n) 41 q rest
@@ -127,32 +127,32 @@ module _ (size : ℕ) where
     selectors_then (g.index x d) t n zero found r k l m c = absurd (omega arith)
     selectors_then (g.index {a = a} {xs = xs} {p = q} {q = v} {ts = ts} {mid = mid} {rest = rest} x d) t n (suc turns) found r k l m c =
         u.selectors_on size t (expr_at size n) (stmt_at size n) turns found (L.Index a) (sign (codes "[") q ∷ ts) mid r refl
-          (u.index_step size t (expr_at size n) (stmt_at size n) a q v ts mid (expr_complete x n (omega arith) (record { no_selector = refl; no_operator = refl })))
-          (selectors_then d t n turns (found ++ L.Index a ∷ []) r (omega (arith, f.expr_shrinks x)) (omega (arith, f.expr_shrinks x)) (omega (arith, f.expr_shrinks x))
-            (λ w z. subst (λ (ys : List JsSelector). p.selectors_from size t (expr_at size n) (stmt_at size n) w ys rest ≡ r) (sym (append_assoc found (L.Index a ∷ []) xs)) (c w z)))
+        (u.index_step size t (expr_at size n) (stmt_at size n) a q v ts mid (expr_complete x n (omega arith) (record { no_selector = refl; no_operator = refl })))
+        (selectors_then d t n turns (found ++ L.Index a ∷ []) r (omega (arith, f.expr_shrinks x)) (omega (arith, f.expr_shrinks x)) (omega (arith, f.expr_shrinks x))
+        (λ w z. subst (λ (ys : List JsSelector). p.selectors_from size t (expr_at size n) (stmt_at size n) w ys rest ≡ r) (sym (append_assoc found (L.Index a ∷ []) xs)) (c w z)))
     selectors_then (g.call x d) t n zero found r k l m c = absurd (omega (arith, f.arguments_shrink x))
     selectors_then (g.call {args = args} {xs = xs} {mid = mid} {rest = rest} (g.arguments {p = q} {ts = ts} x) d) t n (suc turns) found r k l m c =
         u.selectors_on size t (expr_at size n) (stmt_at size n) turns found (L.Call args) (sign (codes "(") q ∷ ts) mid r refl
-          (u.call_step size t (expr_at size n) (stmt_at size n) args q ts mid (u.arguments_step size t (expr_at size n) (stmt_at size n) q ts (Ok (args, mid)) (round_complete x t n (omega arith) (omega arith))))
-          (selectors_then d t n turns (found ++ L.Call args ∷ []) r (omega (arith, f.listed_shrinks x)) (omega (arith, f.listed_shrinks x)) (omega (arith, f.listed_shrinks x))
-            (λ w z. subst (λ (ys : List JsSelector). p.selectors_from size t (expr_at size n) (stmt_at size n) w ys rest ≡ r) (sym (append_assoc found (L.Call args ∷ []) xs)) (c w z)))
+        (u.call_step size t (expr_at size n) (stmt_at size n) args q ts mid (u.arguments_step size t (expr_at size n) (stmt_at size n) q ts (Ok (args, mid)) (round_complete x t n (omega arith) (omega arith))))
+        (selectors_then d t n turns (found ++ L.Call args ∷ []) r (omega (arith, f.listed_shrinks x)) (omega (arith, f.listed_shrinks x)) (omega (arith, f.listed_shrinks x))
+        (λ w z. subst (λ (ys : List JsSelector). p.selectors_from size t (expr_at size n) (stmt_at size n) w ys rest ≡ r) (sym (append_assoc found (L.Call args ∷ []) xs)) (c w z)))
     selectors_then (g.member x d) t n zero found r k l m c = absurd (omega arith)
     selectors_then (g.member {m = v} {xs = xs} {p = q} {q = o} {ts = ts} {rest = rest} x d) t n (suc turns) found r k l m c =
         u.selectors_on size t (expr_at size n) (stmt_at size n) turns found (L.Member v) (sign (codes ".") q ∷ word (member_text v) o ∷ ts) ts r refl
-          (u.member_step size t (expr_at size n) (stmt_at size n) v q o ts (sym (next_is_sign 40 [] ts) ∙ x))
-          (selectors_then d t n turns (found ++ L.Member v ∷ []) r (omega arith) (omega arith) (omega arith)
-            (λ w z. subst (λ (ys : List JsSelector). p.selectors_from size t (expr_at size n) (stmt_at size n) w ys rest ≡ r) (sym (append_assoc found (L.Member v ∷ []) xs)) (c w z)))
+        (u.member_step size t (expr_at size n) (stmt_at size n) v q o ts (sym (next_is_sign 40 [] ts) ∙ x))
+        (selectors_then d t n turns (found ++ L.Member v ∷ []) r (omega arith) (omega arith) (omega arith)
+        (λ w z. subst (λ (ys : List JsSelector). p.selectors_from size t (expr_at size n) (stmt_at size n) w ys rest ≡ r) (sym (append_assoc found (L.Member v ∷ []) xs)) (c w z)))
     selectors_then (g.method x d) t n zero found r k l m c = absurd (omega arith)
     selectors_then (g.method {m = v} {args = args} {xs = xs} {p = q} {q = o} {mid = mid} {rest = rest} (g.arguments {p = b} {ts = ts} x) d) t n (suc turns) found r k l m c =
         u.selectors_on size t (expr_at size n) (stmt_at size n) turns found (L.Method v args) (sign (codes ".") q ∷ word (member_text v) o ∷ sign (codes "(") b ∷ ts) mid r refl
-          (u.method_step size t (expr_at size n) (stmt_at size n) v args q o b ts mid (u.arguments_step size t (expr_at size n) (stmt_at size n) b ts (Ok (args, mid)) (round_complete x t n (omega arith) (omega arith))))
-          (selectors_then d t n turns (found ++ L.Method v args ∷ []) r (omega (arith, f.listed_shrinks x)) (omega (arith, f.listed_shrinks x)) (omega (arith, f.listed_shrinks x))
-            (λ w z. subst (λ (ys : List JsSelector). p.selectors_from size t (expr_at size n) (stmt_at size n) w ys rest ≡ r) (sym (append_assoc found (L.Method v args ∷ []) xs)) (c w z)))
+        (u.method_step size t (expr_at size n) (stmt_at size n) v args q o b ts mid (u.arguments_step size t (expr_at size n) (stmt_at size n) b ts (Ok (args, mid)) (round_complete x t n (omega arith) (omega arith))))
+        (selectors_then d t n turns (found ++ L.Method v args ∷ []) r (omega (arith, f.listed_shrinks x)) (omega (arith, f.listed_shrinks x)) (omega (arith, f.listed_shrinks x))
+        (λ w z. subst (λ (ys : List JsSelector). p.selectors_from size t (expr_at size n) (stmt_at size n) w ys rest ≡ r) (sym (append_assoc found (L.Method v args ∷ []) xs)) (c w z)))
 
     pub primary_complete : {a : JsPrimary} {ts rest : Tokens} → IsPrimary ts a rest → (n : ℕ) → length ts ≤ n → selects (sign_of rest) ≡ false → p.primary size (suc n) (expr_at size n) (stmt_at size n) ts ≡ Ok (a, rest)
     primary_complete (g.primary_of {a = a} {xs = xs} {ts = ts} {mid = mid} {rest = rest} x d) n k c =
         u.primary_step size (suc n) (expr_at size n) (stmt_at size n) a xs ts mid rest (head_complete x (suc n) n k (omega arith))
-          (selectors_then d (suc n) n (suc n) [] (Ok (xs, rest)) (omega (arith, f.head_shrinks x)) (omega (arith, f.head_shrinks x)) (omega (arith, f.head_shrinks x)) (u.selectors_last size (suc n) (expr_at size n) (stmt_at size n) xs rest c))
+        (selectors_then d (suc n) n (suc n) [] (Ok (xs, rest)) (omega (arith, f.head_shrinks x)) (omega (arith, f.head_shrinks x)) (omega (arith, f.head_shrinks x)) (u.selectors_last size (suc n) (expr_at size n) (stmt_at size n) xs rest c))
 
     pub entries_complete : {xs : List JsEntry} {ts rest : Tokens} → AreEntries ts xs rest → (t n turns : ℕ) (found : List JsEntry) → length ts ≤ n → length ts ≤ turns → sign_is (codes ",") rest ≡ false → Ends rest
         → p.entries_from size t (expr_at size n) (stmt_at size n) turns found ts ≡ Ok (found ++ xs, rest)
@@ -162,7 +162,7 @@ module _ (size : ℕ) where
     entries_complete (g.more_entries d x) t n zero found k m c w = absurd (omega arith)
     entries_complete (g.more_entries {us = us} {a = a} {xs = xs} {p = q} {q = r} {r = v} {ts = ts} {mid = mid} {rest = rest} d x) t n (suc turns) found k m c w =
         u.entries_more size t (expr_at size n) (stmt_at size n) turns found xs us a q r v ts mid rest (expr_complete d n (omega arith) (record { no_selector = refl; no_operator = refl }))
-          (entries_complete x t n turns (found ++ record { key = us; value = a } ∷ []) (omega (arith, f.expr_shrinks d)) (omega (arith, f.expr_shrinks d)) c w)
+        (entries_complete x t n turns (found ++ record { key = us; value = a } ∷ []) (omega (arith, f.expr_shrinks d)) (omega (arith, f.expr_shrinks d)) c w)
 
     pub expr_complete : {a : JsExpr} {ts rest : Tokens} → IsExpr ts a rest → (n : ℕ) → length ts < n → Ends rest → expr_at size n ts ≡ Ok (a, rest)
     expr_complete d zero k w = absurd (omega arith)
@@ -170,7 +170,7 @@ module _ (size : ℕ) where
         u.expr_up size n ts _ (plain_is d n _ (u.alone_step size (suc n) (expr_at size n) (stmt_at size n) a ts rest (primary_complete d n (omega arith) w.no_selector) w.no_operator))
     expr_complete (g.binary {o = o} {a = a} {b = b} {p = q} {ts = ts} {mid = mid} {rest = rest} d x) (suc n) k w =
         u.expr_up size n ts _ (plain_is d n _ (u.binary_step size (suc n) (expr_at size n) (stmt_at size n) o a b q ts mid rest (primary_complete d n (omega arith) (u.operator_ends o))
-          (primary_complete x n (omega (arith, f.primary_shrinks d)) w.no_selector)))
+        (primary_complete x n (omega (arith, f.primary_shrinks d)) w.no_selector)))
     expr_complete (g.type_of {a = a} {p = q} {ts = ts} {rest = rest} d) (suc n) k w =
         u.expr_up size n _ _ (u.type_of_step size (suc n) (expr_at size n) (stmt_at size n) a q ts rest (primary_complete d n (omega arith) w.no_selector))
     expr_complete (g.function {f = v} {p = q} {ts = ts} {rest = rest} d) (suc n) k w =
@@ -185,7 +185,7 @@ module _ (size : ℕ) where
     pub function_complete : {a : JsFunction} {ts rest : Tokens} → IsFunction ts a rest → (n t : ℕ) → length ts ≤ n → length ts ≤ t → p.function size t (expr_at size n) (stmt_at size n) ts ≡ Ok (a, rest)
     function_complete (g.function_of {ps = ps} {body = body} {ts = ts} {mid = mid} {rest = rest} x d) n t k m =
         u.function_of_step size t (expr_at size n) (stmt_at size n) ps (u.onto ps []) body ts mid rest (u.parameters_complete x size t m)
-          (block_complete d n t (u.onto ps []) (u.onto_all ps) (omega (arith, f.parameters_shrink x)) (omega (arith, f.parameters_shrink x)))
+        (block_complete d n t (u.onto ps []) (u.onto_all ps) (omega (arith, f.parameters_shrink x)) (omega (arith, f.parameters_shrink x)))
 
     pub block_complete : {names : Names} {xs : List JsStmt} {ts rest : Tokens} → IsBlock names ts xs rest → (n t : ℕ) (others : Names) → IsSame others names → length ts ≤ n → length ts ≤ t
         → p.block size t (expr_at size n) (stmt_at size n) others ts ≡ Ok (xs, rest)
@@ -199,7 +199,7 @@ module _ (size : ℕ) where
     stmts_complete (g.stmts x d) n t zero others found same c k m = absurd (omega arith)
     stmts_complete {ts = ts} {end = end} (g.stmts {a = a} {more = more} {mid = mid} x d) n t (suc turns) others found same c k m =
         u.stmts_more size t (expr_at size n) (stmt_at size n) turns others (declared a others) found more a ts mid (after_sign end) (f.stmt_sign x) (named_complete x n t others same k (f.stmts_no_else d (sign_no_word end c)))
-          (stmts_complete d n t turns (declared a others) (found ++ a ∷ []) (same_declared others x same) c (omega (arith, f.stmt_shrinks x)) (omega (arith, f.stmt_shrinks x)))
+        (stmts_complete d n t turns (declared a others) (found ++ a ∷ []) (same_declared others x same) c (omega (arith, f.stmt_shrinks x)) (omega (arith, f.stmt_shrinks x)))
 
     pub named_complete : {names : Names} {a : JsStmt} {ts rest : Tokens} → IsStmt names ts a rest → (n t : ℕ) (others : Names) → IsSame others names → length ts < n → word_is (codes "else") rest ≡ false
         → p.named_stmt size t (expr_at size n) (stmt_at size n) others ts ≡ Ok ((a, declared a others), rest)
@@ -208,31 +208,31 @@ module _ (size : ℕ) where
         u.let_step size t (expr_at size (suc n)) (stmt_at size (suc n)) others x a q r v w ts rest m (same x ∙ c) (expr_complete d (suc n) (omega arith) (record { no_selector = refl; no_operator = refl }))
     named_complete (g.assign {x = x} {a = a} {p = q} {q = r} {r = v} {ts = ts} {rest = rest} m d) (suc n) t others same k o =
         simple n t others (s.Assign q.from x a) (word x q ∷ sign (codes "=") r ∷ ts) rest (λ c more z. word_not x (c ∷ more) (name_begins x m) z) refl
-          (u.assign_step size (suc n) (expr_at size n) (stmt_at size n) x a q r v ts rest (name_alone n x q (sign (codes "=") r ∷ ts) m refl) (expr_complete d n (omega arith) (record { no_selector = refl; no_operator = refl })))
+        (u.assign_step size (suc n) (expr_at size n) (stmt_at size n) x a q r v ts rest (name_alone n x q (sign (codes "=") r ∷ ts) m refl) (expr_complete d n (omega arith) (record { no_selector = refl; no_operator = refl })))
     named_complete (g.store {a = a} {xs = xs} {b = b} {c = c} {p = q} {q = r} {r = v} {t = w} {ts = ts} {mid = mid} {after = after} {late = late} {rest = rest} x d y z) (suc n) t others same k o =
         subst (λ (at : ℕ). p.named_stmt size t (expr_at size (suc n)) (stmt_at size (suc n)) others ts ≡ Ok ((s.Store at (record { head = a; selectors = xs }) b c, others), rest)) (start_place size ts mid (f.head_shrinks x))
-          (simple n t others (s.Store (place size ts) (record { head = a; selectors = xs }) b c) ts rest (head_word x) refl
-            (u.store_step size (suc n) (expr_at size n) (stmt_at size n) a xs b c v w ts late rest
-              (u.primary_step size (suc n) (expr_at size n) (stmt_at size n) a (xs ++ L.Index b ∷ []) ts mid (sign (codes "=") v ∷ late) (head_complete x (suc n) n (omega arith) (omega arith))
-                (selectors_then d (suc n) n (suc n) [] (Ok (xs ++ L.Index b ∷ [], sign (codes "=") v ∷ late)) (omega (arith, f.head_shrinks x)) (omega (arith, f.head_shrinks x)) (omega (arith, f.head_shrinks x))
-                  (u.index_last size (suc n) (expr_at size n) (stmt_at size n) xs b q r after (sign (codes "=") v ∷ late) (expr_complete y n (omega (arith, f.head_shrinks x, f.selectors_shrink d)) (record { no_selector = refl; no_operator = refl })) refl)))
-              (expr_complete z n (omega (arith, f.head_shrinks x, f.selectors_shrink d, f.expr_shrinks y)) (record { no_selector = refl; no_operator = refl }))))
+        (simple n t others (s.Store (place size ts) (record { head = a; selectors = xs }) b c) ts rest (head_word x) refl
+        (u.store_step size (suc n) (expr_at size n) (stmt_at size n) a xs b c v w ts late rest
+        (u.primary_step size (suc n) (expr_at size n) (stmt_at size n) a (xs ++ L.Index b ∷ []) ts mid (sign (codes "=") v ∷ late) (head_complete x (suc n) n (omega arith) (omega arith))
+        (selectors_then d (suc n) n (suc n) [] (Ok (xs ++ L.Index b ∷ [], sign (codes "=") v ∷ late)) (omega (arith, f.head_shrinks x)) (omega (arith, f.head_shrinks x)) (omega (arith, f.head_shrinks x))
+        (u.index_last size (suc n) (expr_at size n) (stmt_at size n) xs b q r after (sign (codes "=") v ∷ late) (expr_complete y n (omega (arith, f.head_shrinks x, f.selectors_shrink d)) (record { no_selector = refl; no_operator = refl })) refl)))
+        (expr_complete z n (omega (arith, f.head_shrinks x, f.selectors_shrink d, f.expr_shrinks y)) (record { no_selector = refl; no_operator = refl }))))
     named_complete (g.perform {a = a} {p = q} {ts = ts} {rest = rest} d) (suc n) t others same k o =
         subst (λ (at : ℕ). p.named_stmt size t (expr_at size (suc n)) (stmt_at size (suc n)) others ts ≡ Ok ((s.Perform at a, others), rest)) (start_place size ts (sign (codes ";") q ∷ rest) (f.primary_shrinks d))
-          (simple n t others (s.Perform (place size ts) a) ts rest (primary_word d) refl (u.perform_step size (suc n) (expr_at size n) (stmt_at size n) a q ts rest (primary_complete d n (omega arith) refl)))
+        (simple n t others (s.Perform (place size ts) a) ts rest (primary_word d) refl (u.perform_step size (suc n) (expr_at size n) (stmt_at size n) a q ts rest (primary_complete d n (omega arith) refl)))
     named_complete (g.if' {a = a} {xs = xs} {p = q} {q = r} {r = v} {ts = ts} {mid = mid} {rest = rest} d x) (suc n) t others same k o =
         other n t others (s.If q.from a xs) _ rest refl refl
-          (u.if_step size (suc n) (expr_at size n) (stmt_at size n) a xs q r v ts mid rest (expr_complete d n (omega arith) (record { no_selector = refl; no_operator = refl })) (block_complete x n (suc n) [] (λ y. refl) (omega (arith, f.expr_shrinks d)) (omega (arith, f.expr_shrinks d))) o)
+        (u.if_step size (suc n) (expr_at size n) (stmt_at size n) a xs q r v ts mid rest (expr_complete d n (omega arith) (record { no_selector = refl; no_operator = refl })) (block_complete x n (suc n) [] (λ y. refl) (omega (arith, f.expr_shrinks d)) (omega (arith, f.expr_shrinks d))) o)
     named_complete (g.if_else {a = a} {xs = xs} {ys = ys} {p = q} {q = r} {r = v} {t = w} {ts = ts} {mid = mid} {after = after} {rest = rest} d x y) (suc n) t others same k o =
         other n t others (s.IfElse q.from a xs ys) _ rest refl refl
-          (u.if_else_step size (suc n) (expr_at size n) (stmt_at size n) a xs ys q r v w ts mid after rest (expr_complete d n (omega arith) (record { no_selector = refl; no_operator = refl }))
-            (block_complete x n (suc n) [] (λ z. refl) (omega (arith, f.expr_shrinks d)) (omega (arith, f.expr_shrinks d)))
-            (block_complete y n (suc n) [] (λ z. refl) (omega (arith, f.expr_shrinks d, f.block_shrinks x)) (omega (arith, f.expr_shrinks d, f.block_shrinks x))))
+        (u.if_else_step size (suc n) (expr_at size n) (stmt_at size n) a xs ys q r v w ts mid after rest (expr_complete d n (omega arith) (record { no_selector = refl; no_operator = refl }))
+        (block_complete x n (suc n) [] (λ z. refl) (omega (arith, f.expr_shrinks d)) (omega (arith, f.expr_shrinks d)))
+        (block_complete y n (suc n) [] (λ z. refl) (omega (arith, f.expr_shrinks d, f.block_shrinks x)) (omega (arith, f.expr_shrinks d, f.block_shrinks x))))
     named_complete (g.loop {xs = xs} {p = q} {q = r} {r = v} {t = w} {ts = ts} {rest = rest} d) (suc n) t others same k o =
         other n t others (s.Loop q.from xs) _ rest refl refl (u.loop_step size (suc n) (expr_at size n) (stmt_at size n) xs q r v w ts rest (block_complete d n (suc n) [] (λ z. refl) (omega arith) (omega arith)))
     named_complete (g.labelled {x = x} {xs = xs} {p = q} {q = r} {ts = ts} {rest = rest} m d) (suc n) t others same k o =
         simple n t others (s.Labelled q.from x xs) (word x q ∷ sign (codes ":") r ∷ ts) rest (λ c more z. word_not x (c ∷ more) (name_begins x m) z) refl
-          (u.label_step size (suc n) (expr_at size n) (stmt_at size n) x xs q r ts rest (name_alone n x q (sign (codes ":") r ∷ ts) m refl) (block_complete d n (suc n) [] (λ z. refl) (omega arith) (omega arith)))
+        (u.label_step size (suc n) (expr_at size n) (stmt_at size n) x xs q r ts rest (name_alone n x q (sign (codes ":") r ∷ ts) m refl) (block_complete d n (suc n) [] (λ z. refl) (omega arith) (omega arith)))
     named_complete (g.break' {x = x} {p = q} {q = r} {r = v} {rest = rest} m l) (suc n) t others same k o = other n t others (s.Break q.from x) _ rest refl refl (u.break_step size (suc n) (expr_at size n) (stmt_at size n) x q r v rest m l)
     named_complete (g.return' {a = a} {t = b} {p = q} {q = r} {ts = ts} {rest = rest} l d) (suc n) t others same k o =
         other n t others (s.Return q.from a) _ rest refl refl (u.return_step size (suc n) (expr_at size n) (stmt_at size n) a q r (b ∷ ts) rest l (expr_complete d n (omega arith) (record { no_selector = refl; no_operator = refl })))
@@ -240,12 +240,12 @@ module _ (size : ℕ) where
         other n t others (s.Throw q.from a) _ rest refl refl (u.throw_step size (suc n) (expr_at size n) (stmt_at size n) a q r (b ∷ ts) rest l (expr_complete d n (omega arith) (record { no_selector = refl; no_operator = refl })))
     named_complete (g.try_catch {x = x} {xs = xs} {ys = ys} {p = q} {q = r} {r = v} {t = w} {u = b} {ts = ts} {mid = mid} {rest = rest} m d y) (suc n) t others same k o =
         other n t others (s.TryCatch q.from xs x ys) _ rest refl refl
-          (u.catch_step size (suc n) (expr_at size n) (stmt_at size n) x xs ys q r v w b ts mid rest m (block_complete d n (suc n) [] (λ z. refl) (omega arith) (omega arith))
-            (block_complete y n (suc n) (x ∷ []) (λ z. refl) (omega (arith, f.block_shrinks d)) (omega (arith, f.block_shrinks d))))
+        (u.catch_step size (suc n) (expr_at size n) (stmt_at size n) x xs ys q r v w b ts mid rest m (block_complete d n (suc n) [] (λ z. refl) (omega arith) (omega arith))
+        (block_complete y n (suc n) (x ∷ []) (λ z. refl) (omega (arith, f.block_shrinks d)) (omega (arith, f.block_shrinks d))))
     named_complete (g.try_finally {xs = xs} {ys = ys} {p = q} {q = r} {ts = ts} {mid = mid} {rest = rest} d y) (suc n) t others same k o =
         other n t others (s.TryFinally q.from xs ys) _ rest refl refl
-          (u.finally_step size (suc n) (expr_at size n) (stmt_at size n) xs ys q r ts mid rest (block_complete d n (suc n) [] (λ z. refl) (omega arith) (omega arith))
-            (block_complete y n (suc n) [] (λ z. refl) (omega (arith, f.block_shrinks d)) (omega (arith, f.block_shrinks d))))
+        (u.finally_step size (suc n) (expr_at size n) (stmt_at size n) xs ys q r ts mid rest (block_complete d n (suc n) [] (λ z. refl) (omega arith) (omega arith))
+        (block_complete y n (suc n) [] (λ z. refl) (omega (arith, f.block_shrinks d)) (omega (arith, f.block_shrinks d))))
 
   pub items_complete : {names : Names} {xs : List JsItem} {ts : Tokens} → AreItems names ts xs → (n turns : ℕ) (others : Names) (found : List JsItem) → IsSame others names → length ts < n → length ts < turns
       → p.items_from size n (expr_at size n) (stmt_at size n) turns others found ts ≡ Ok (found ++ xs)
@@ -253,13 +253,13 @@ module _ (size : ℕ) where
   items_complete g.no_items n (suc turns) others found same k m = u.items_done size n (expr_at size n) (stmt_at size n) turns others found
   items_complete (g.function_item {names = names} {x = x} {f = v} {more = more} {p = q} {q = r} {ts = ts} {rest = rest} w c d z) n (suc turns) others found same k m =
       u.items_more size n (expr_at size n) (stmt_at size n) turns others (x ∷ others) found more (i.Declared x v) (word (codes "function") q ∷ word x r ∷ ts) rest refl
-        (u.declared_step size n (expr_at size n) (stmt_at size n) others x v q r ts rest w (same x ∙ c) (function_complete d n n (omega arith) (omega arith)))
-        (items_complete z n turns (x ∷ others) (found ++ i.Declared x v ∷ []) (same_more others names x same) (omega (arith, f.function_shrinks d)) (omega (arith, f.function_shrinks d)))
+      (u.declared_step size n (expr_at size n) (stmt_at size n) others x v q r ts rest w (same x ∙ c) (function_complete d n n (omega arith) (omega arith)))
+      (items_complete z n turns (x ∷ others) (found ++ i.Declared x v ∷ []) (same_more others names x same) (omega (arith, f.function_shrinks d)) (omega (arith, f.function_shrinks d)))
   items_complete (g.var {names = names} {x = x} {a = a} {more = more} {p = q} {q = r} {r = v} {t = b} {ts = ts} {rest = rest} w c d z) n (suc turns) others found same k m =
       u.items_more size n (expr_at size n) (stmt_at size n) turns others (x ∷ others) found more (i.Var q.from x a) (word (codes "var") q ∷ word x r ∷ sign (codes "=") v ∷ ts) rest refl
-        (u.var_step size n (expr_at size n) (stmt_at size n) others x a q r v b ts rest w (same x ∙ c) (expr_complete d n (omega arith) (record { no_selector = refl; no_operator = refl })))
-        (items_complete z n turns (x ∷ others) (found ++ i.Var q.from x a ∷ []) (same_more others names x same) (omega (arith, f.expr_shrinks d)) (omega (arith, f.expr_shrinks d)))
+      (u.var_step size n (expr_at size n) (stmt_at size n) others x a q r v b ts rest w (same x ∙ c) (expr_complete d n (omega arith) (record { no_selector = refl; no_operator = refl })))
+      (items_complete z n turns (x ∷ others) (found ++ i.Var q.from x a ∷ []) (same_more others names x same) (omega (arith, f.expr_shrinks d)) (omega (arith, f.expr_shrinks d)))
   items_complete (g.statement {a = a} {more = more} {ts = ts} {rest = rest} d z) n (suc turns) others found same k m =
       u.items_more size n (expr_at size n) (stmt_at size n) turns others (declared a others) found more (i.Statement a) ts rest (some_tokens ts rest (f.stmt_shrinks d))
-        (u.item_stmt_step size n (expr_at size n) (stmt_at size n) others (declared a others) a ts rest (f.stmt_no_function d) (f.stmt_no_var d) (named_complete d n n others same k (f.items_no_else z)))
-        (items_complete z n turns (declared a others) (found ++ i.Statement a ∷ []) (same_declared others d same) (omega (arith, f.stmt_shrinks d)) (omega (arith, f.stmt_shrinks d)))
+      (u.item_stmt_step size n (expr_at size n) (stmt_at size n) others (declared a others) a ts rest (f.stmt_no_function d) (f.stmt_no_var d) (named_complete d n n others same k (f.items_no_else z)))
+      (items_complete z n turns (declared a others) (found ++ i.Statement a ∷ []) (same_declared others d same) (omega (arith, f.stmt_shrinks d)) (omega (arith, f.stmt_shrinks d)))

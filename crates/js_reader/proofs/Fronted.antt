@@ -66,27 +66,27 @@ word_next c more (t ∷ ts) h =
 pub expect_sound : (size c : ℕ) (more : Bytes) (ts rest : Tokens) → expect size (c ∷ more) ts ≡ Ok rest → (p : Place) × (ts ≡ sign (c ∷ more) p ∷ rest)
 unfolding expect
 expect_sound size c more ts rest h = elim (chosen (sign_is (c ∷ more) ts) (Ok (after_sign ts)) (Err (place size ts)) (Ok rest) h) [
-    | inl y ↦
+  | inl y ↦
       let n = sign_next c more ts y.0 in
       (n.0, n.1 ∙ ap (λ (r : Tokens). sign (c ∷ more) n.0 ∷ r) (ok_is (after_sign ts) rest y.1))
-    | inr y ↦ absurd cc
-  ]
+  | inr y ↦ absurd cc
+]
 
 pub expect_word_sound : (size c : ℕ) (more : Bytes) (ts rest : Tokens) → expect_word size (c ∷ more) ts ≡ Ok rest → (p : Place) × (ts ≡ word (c ∷ more) p ∷ rest)
 unfolding expect_word
 expect_word_sound size c more ts rest h = elim (chosen (word_is (c ∷ more) ts) (Ok (after_word ts)) (Err (place size ts)) (Ok rest) h) [
-    | inl y ↦
+  | inl y ↦
       let n = word_next c more ts y.0 in
       (n.0, n.1 ∙ ap (λ (r : Tokens). word (c ∷ more) n.0 ∷ r) (ok_is (after_word ts) rest y.1))
-    | inr y ↦ absurd cc
-  ]
+  | inr y ↦ absurd cc
+]
 
 pub on_line_sound : (size : ℕ) (ts rest : Tokens) → on_line size ts ≡ Ok rest → (on_new_line ts ≡ false) × (ts ≡ rest)
 unfolding on_line
 on_line_sound size ts rest h = elim (chosen (on_new_line ts) (Err (place size ts)) (Ok ts) (Ok rest) h) [
-    | inl y ↦ absurd cc
-    | inr y ↦ (y.0, ok_is ts rest y.1)
-  ]
+  | inl y ↦ absurd cc
+  | inr y ↦ (y.0, ok_is ts rest y.1)
+]
 
 -- a run of at least a byte stands at the front
 some_word : (ts : Tokens) → is_some_text (word_of ts) ≡ true → (p : Place) × (ts ≡ word (word_of ts) p ∷ after_word ts)
@@ -106,12 +106,12 @@ name_some (c ∷ x) h = refl
 pub name_sound : (size : ℕ) (ts : Tokens) (r : Bytes × Tokens) → name_at size ts ≡ Ok r → (p : Place) × (ts ≡ word r.0 p ∷ r.1) × (is_name r.0 ≡ true)
 unfolding name_at
 name_sound size ts r h = elim (chosen (is_name (word_of ts)) (Ok (word_of ts, after_word ts)) (Err (place size ts)) (Ok r) h) [
-    | inl y ↦
+  | inl y ↦
       let n = some_word ts (name_some (word_of ts) y.0) in
       let is = ok_is (word_of ts, after_word ts) r y.1 in
       (n.0, n.1 ∙ ap (λ (z : Bytes × Tokens). word z.0 n.0 ∷ z.1) is, subst (λ (z : Bytes × Tokens). is_name z.0 ≡ true) is y.0)
-    | inr y ↦ absurd cc
-  ]
+  | inr y ↦ absurd cc
+]
 
 both_of : (x y : Bool) → (x && not y) ≡ true → (x ≡ true) × (y ≡ false)
 both_of true true h = absurd cc
@@ -122,13 +122,13 @@ pub fresh_sound : (size : ℕ) (names : Names) (ts : Tokens) (r : Bytes × Token
     → (p : Place) × (ts ≡ word r.0 p ∷ r.1) × (is_name r.0 ≡ true) × (is_among names r.0 ≡ false)
 unfolding fresh_name
 fresh_sound size names ts r h = elim (chosen (is_name (word_of ts) && not (is_among names (word_of ts))) (Ok (word_of ts, after_word ts)) (Err (place size ts)) (Ok r) h) [
-    | inl y ↦
+  | inl y ↦
       let b = both_of (is_name (word_of ts)) (is_among names (word_of ts)) y.0 in
       let n = some_word ts (name_some (word_of ts) b.0) in
       let is = ok_is (word_of ts, after_word ts) r y.1 in
       (n.0, n.1 ∙ ap (λ (z : Bytes × Tokens). word z.0 n.0 ∷ z.1) is, subst (λ (z : Bytes × Tokens). is_name z.0 ≡ true) is b.0, subst (λ (z : Bytes × Tokens). is_among names z.0 ≡ false) is b.1)
-    | inr y ↦ absurd cc
-  ]
+  | inr y ↦ absurd cc
+]
 
 found_is : {A : Type 0} (size : ℕ) (o : Option A) (ts rest : Tokens) (r : A × Tokens) → found_by size o ts rest ≡ Ok r → (o ≡ Some r.0) × (rest ≡ r.1)
 found_is size None ts rest r h = absurd cc

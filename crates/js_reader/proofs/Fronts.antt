@@ -41,15 +41,19 @@ length_fits b bs = equals (b == 61) where
   last : (t : Bool) → cond t 1 0 ≤ suc (length bs)
   last true = omega arith
   last false = omega arith
+
   two : (t : Bool) → begins 61 bs ≡ t → cond t 2 1 ≤ suc (length bs)
   two true e = omega (arith, begins_long 61 bs e)
   two false e = omega arith
+
   order : (t : Bool) → cond t (cond (begins 61 bs) 2 1) (cond (is_single b) 1 0) ≤ suc (length bs)
   order true = two (begins 61 bs) refl
   order false = last (is_single b)
+
   three : (t : Bool) → begins_twice 61 bs ≡ t → cond t 3 1 ≤ suc (length bs)
   three true e = omega (arith, begins_twice_long 61 bs e)
   three false e = omega arith
+
   equals : (t : Bool) → cond t (cond (begins_twice 61 bs) 3 1) (cond (◌||◌ (b == 60) (b == 62)) (cond (begins 61 bs) 2 1) (cond (is_single b) 1 0)) ≤ suc (length bs)
   equals true = three (begins_twice 61 bs) refl
   equals false = order (◌||◌ (b == 60) (b == 62))

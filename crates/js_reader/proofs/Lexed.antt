@@ -147,10 +147,49 @@ long_greater after = by (begins 61 after) where
 
 all_long : Each IsLong signs
 unfolding sign_length
-all_long =
-    ((λ r. omega arith), ((λ r. omega arith), ((λ r. omega arith),
-    ((λ r. omega arith), ((λ r. omega arith), ((λ r. omega arith), ((λ r. omega arith), ((λ r. omega arith), ((λ r. omega arith), ((λ r. omega arith), ((λ r. omega arith), ((λ r. omega arith), ((λ r. omega arith), (long_equals,
-    ((λ r. omega arith), ((λ r. omega arith), ((λ r. omega arith), ((λ r. omega arith), ((λ r. omega arith), (long_less, (long_greater, tt)))))))))))))))))))))
+all_long = (
+  (λ r. omega arith),
+  (
+    (λ r. omega arith),
+    (
+      (λ r. omega arith),
+      (
+        (λ r. omega arith),
+        (
+          (λ r. omega arith),
+          (
+            (λ r. omega arith),
+            (
+              (λ r. omega arith),
+              (
+                (λ r. omega arith),
+                (
+                  (λ r. omega arith),
+                  (
+                    (λ r. omega arith),
+                    (
+                      (λ r. omega arith),
+                      (
+                        (λ r. omega arith),
+                        (
+                          (λ r. omega arith),
+                          (
+                            long_equals,
+                            ((λ r. omega arith), ((λ r. omega arith), ((λ r. omega arith), ((λ r. omega arith), ((λ r. omega arith), (long_less, (long_greater, tt))))))),
+                          ),
+                        ),
+                      ),
+                    ),
+                  ),
+                ),
+              ),
+            ),
+          ),
+        ),
+      ),
+    ),
+  ),
+)
 
 -- no sign at the front is longer
 sign_long : (bs x after : Bytes) → bs ≡ x ++ after → is_sign x ≡ true → length x ≤ sign_length bs
@@ -191,18 +230,22 @@ length_of_sign b bs = equals (b == 61) refl where
   last : (t : Bool) → is_single b ≡ t → IsSignOf (cond t 1 0) (b ∷ bs)
   last true e = inr (single_is_sign b e)
   last false e = inl refl
+
   two : (c : ℕ) → is_sign (c ∷ []) ≡ true → is_sign (c ∷ 61 ∷ []) ≡ true → (t : Bool) → begins 61 bs ≡ t → IsSignOf (cond t 2 1) (c ∷ bs)
   two c one both true e = let r = begins_is 61 bs e in inr (subst (λ (y : Bytes). is_sign (take 2 (c ∷ y)) ≡ true) (sym r.1) both)
   two c one both false e = inr one
+
   order : (t : Bool) → (b == 60 || b == 62) ≡ t → IsSignOf (cond t (cond (begins 61 bs) 2 1) (cond (is_single b) 1 0)) (b ∷ bs)
   order true e = elim (or_tells (b == 60) (b == 62) e) [
-      | inl q ↦ subst (λ (c : ℕ). IsSignOf (cond (begins 61 bs) 2 1) (c ∷ bs)) (sym (eqb-true b 60 q)) (two 60 refl refl (begins 61 bs) refl)
-      | inr q ↦ subst (λ (c : ℕ). IsSignOf (cond (begins 61 bs) 2 1) (c ∷ bs)) (sym (eqb-true b 62 q)) (two 62 refl refl (begins 61 bs) refl)
-    ]
+    | inl q ↦ subst (λ (c : ℕ). IsSignOf (cond (begins 61 bs) 2 1) (c ∷ bs)) (sym (eqb-true b 60 q)) (two 60 refl refl (begins 61 bs) refl)
+    | inr q ↦ subst (λ (c : ℕ). IsSignOf (cond (begins 61 bs) 2 1) (c ∷ bs)) (sym (eqb-true b 62 q)) (two 62 refl refl (begins 61 bs) refl)
+  ]
   order false e = last (is_single b) refl
+
   three : (t : Bool) → begins_twice 61 bs ≡ t → IsSignOf (cond t 3 1) (61 ∷ bs)
   three true e = let r = begins_twice_is 61 bs e in inr (subst (λ (y : Bytes). is_sign (take 3 (61 ∷ y)) ≡ true) (sym r.1) refl)
   three false e = inr refl
+
   equals : (t : Bool) → (b == 61) ≡ t → IsSignOf (cond t (cond (begins_twice 61 bs) 3 1) (cond (b == 60 || b == 62) (cond (begins 61 bs) 2 1) (cond (is_single b) 1 0))) (b ∷ bs)
   equals true e = subst (λ (c : ℕ). IsSignOf (cond (begins_twice 61 bs) 3 1) (c ∷ bs)) (sym (eqb-true b 61 e)) (three (begins_twice 61 bs) refl)
   equals false e = order (b == 60 || b == 62) refl
@@ -216,20 +259,24 @@ sign_of_length b bs = by (is_part b || b == 34) where
 
 sign_begins : (b : ℕ) (bs : Bytes) (n : ℕ) → sign_length (b ∷ bs) ≡ suc n → BeginsWith (b ∷ bs) (take (suc n) (b ∷ bs)) (drop (suc n) (b ∷ bs))
 sign_begins b bs n e = elim (sign_of_length b bs) [
-    | inl z ↦ absurd (omega (arith, e, z))
-    | inr s ↦
-      (sym (take-append-drop (suc n) (b ∷ bs)), subst (λ (k : ℕ). is_sign (take k (b ∷ bs)) ≡ true) e s,
-       λ x after is h. omega (arith, sign_long (b ∷ bs) x after is h, length-take-le (suc n) (b ∷ bs) (subst (λ (k : ℕ). k ≤ length (b ∷ bs)) e (sign_fits (b ∷ bs)))))
-  ]
+  | inl z ↦ absurd (omega (arith, e, z))
+  | inr s ↦ (
+    sym (take-append-drop (suc n) (b ∷ bs)),
+    subst (λ (k : ℕ). is_sign (take k (b ∷ bs)) ≡ true) e s,
+    λ x after is h. omega (arith, sign_long (b ∷ bs) x after is h, length-take-le (suc n) (b ∷ bs) (subst (λ (k : ℕ). k ≤ length (b ∷ bs)) e (sign_fits (b ∷ bs)))),
+  )
+]
 
 -- the sign that begins the bytes is the one that is read
 sign_same : (b : ℕ) (bs text rest : Bytes) → BeginsWith (b ∷ bs) text rest → sign_form (sign_length (b ∷ bs)) (b ∷ bs) ≡ (Sign text, rest)
 sign_same b bs text rest h = by (sign_length (b ∷ bs)) refl where
   long : length text ≤ sign_length (b ∷ bs)
   long = sign_long (b ∷ bs) text rest h.0 h.1
+
   some : (x : Bytes) → is_sign x ≡ true → 0 < length x
   some [] e = absurd cc
   some (c ∷ x) e = omega arith
+
   by : (n : ℕ) → sign_length (b ∷ bs) ≡ n → sign_form n (b ∷ bs) ≡ (Sign text, rest)
   by zero e = absurd (omega (arith, long, some text h.1, e))
   by (suc n) e =
@@ -268,6 +315,7 @@ run_front b bs e = some (front is_part (b ∷ bs)) (parts_front (b ∷ bs)) (fro
   some : (x : Bytes) → list_all is_part x ≡ true → 0 < length x → is_run x ≡ true
   some [] a l = absurd (omega arith)
   some (c ∷ x) a l = a
+
   front_begins : (c : ℕ) (cs : Bytes) → is_part c ≡ true → 0 < length (front is_part (c ∷ cs))
   front_begins c cs h = rw h (omega arith)
 
@@ -287,7 +335,8 @@ part_no_blank b h = by (is_blank b) refl where
   blank_no_part : is_blank b ≡ true → is_part b ≡ false
   blank_no_part e =
       either (b == 32 || b == 9) (b == 13 || b == 10) (λ x. either (b == 32) (b == 9) (λ y. ap is_part (eqb-true b 32 y)) (λ y. ap is_part (eqb-true b 9 y)) x)
-        (λ x. either (b == 13) (b == 10) (λ y. ap is_part (eqb-true b 13 y)) (λ y. ap is_part (eqb-true b 10 y)) x) e
+      (λ x. either (b == 13) (b == 10) (λ y. ap is_part (eqb-true b 13 y)) (λ y. ap is_part (eqb-true b 10 y)) x) e
+
   by : (t : Bool) → is_blank b ≡ t → t ≡ false
   by false e = refl
   by true e = absurd (clash h (blank_no_part e))
@@ -302,26 +351,26 @@ of_string bs (Some x) is =
 of_sign : (b : ℕ) (bs : Bytes) → is_blank b ≡ false → is_part b ≡ false → (b == 34) ≡ false → (n : ℕ) → sign_length (b ∷ bs) ≡ n → IsToken (b ∷ bs) (sign_form n (b ∷ bs)).0 (sign_form n (b ∷ bs)).1
 of_sign b bs nb e q zero is =
     unreadable nb e (λ us rest x d. clash (eq-eqb b 34 x) q)
-      (λ text rest h.
-      let s = sign_same b bs text rest h in
-      let z = ap (λ (k : ℕ). sign_form k (b ∷ bs)) is in
-      let u = ap (λ (f : Form × Bytes). f.0) (sym z ∙ s) in
-      absurd cc)
+    (λ text rest h.
+    let s = sign_same b bs text rest h in
+    let z = ap (λ (k : ℕ). sign_form k (b ∷ bs)) is in
+    let u = ap (λ (f : Form × Bytes). f.0) (sym z ∙ s) in
+    absurd cc)
 of_sign b bs nb e q (suc n) is = sign' (take (suc n) (b ∷ bs)) (sign_begins b bs n is)
 
 -- bytes that begin with no blank begin with the token that is read
 pub is_token : (b : ℕ) (bs : Bytes) → is_blank b ≡ false → IsToken (b ∷ bs) (form_at (b ∷ bs)).0 (form_at (b ∷ bs)).1
 is_token b bs nb = elim (tells (is_part b)) [
-    | inl e ↦
+  | inl e ↦
       subst (λ (f : Form × Bytes). IsToken (b ∷ bs) f.0 f.1) (sym (form_run b bs e))
-        (subst (λ (x : Bytes). IsToken x (Run (front is_part (b ∷ bs))) (back is_part (b ∷ bs))) (sym (front-back is_part (b ∷ bs))) (run (front is_part (b ∷ bs)) (run_front b bs e) (ends_back (b ∷ bs))))
-    | inr e ↦ elim (tells (b == 34)) [
-      | inl q ↦
+      (subst (λ (x : Bytes). IsToken x (Run (front is_part (b ∷ bs))) (back is_part (b ∷ bs))) (sym (front-back is_part (b ∷ bs))) (run (front is_part (b ∷ bs)) (run_front b bs e) (ends_back (b ∷ bs))))
+  | inr e ↦ elim (tells (b == 34)) [
+    | inl q ↦
         subst (λ (f : Form × Bytes). IsToken (b ∷ bs) f.0 f.1) (sym (form_string b bs e q))
-          (subst (λ (c : ℕ). IsToken (c ∷ bs) (string_form (units_from (length bs) [] bs)).0 (string_form (units_from (length bs) [] bs)).1) (sym (eqb-true b 34 q)) (of_string bs (units_from (length bs) [] bs) refl))
-      | inr q ↦ subst (λ (f : Form × Bytes). IsToken (b ∷ bs) f.0 f.1) (sym (form_sign b bs e q)) (of_sign b bs nb e q (sign_length (b ∷ bs)) refl)
-    ]
+        (subst (λ (c : ℕ). IsToken (c ∷ bs) (string_form (units_from (length bs) [] bs)).0 (string_form (units_from (length bs) [] bs)).1) (sym (eqb-true b 34 q)) (of_string bs (units_from (length bs) [] bs) refl))
+    | inr q ↦ subst (λ (f : Form × Bytes). IsToken (b ∷ bs) f.0 f.1) (sym (form_sign b bs e q)) (of_sign b bs nb e q (sign_length (b ∷ bs)) refl)
   ]
+]
 
 -- ---- no other token
 
@@ -378,12 +427,13 @@ sign_reads bs text rest h = by bs text h (each IsNoBlankSign signs text all_no_b
 none_reads : (b : ℕ) (bs : Bytes) → is_part b ≡ false → ((us : List ℕ) (rest : Bytes) → b ≡ 34 → IsQuoted bs us rest → ⊥) → ((text rest : Bytes) → BeginsWith (b ∷ bs) text rest → ⊥)
     → form_at (b ∷ bs) ≡ (Unreadable, [])
 none_reads b bs np nq ns = elim (tells (b == 34)) [
-    | inl q ↦ form_string b bs np q ∙ no_units (units_from (length bs) [] bs) refl (eqb-true b 34 q)
-    | inr q ↦ form_sign b bs np q ∙ no_length (sign_length (b ∷ bs)) refl
-  ] where
+  | inl q ↦ form_string b bs np q ∙ no_units (units_from (length bs) [] bs) refl (eqb-true b 34 q)
+  | inr q ↦ form_sign b bs np q ∙ no_length (sign_length (b ∷ bs)) refl
+] where
   no_units : (o : Option (List ℕ × Bytes)) → units_from (length bs) [] bs ≡ o → b ≡ 34 → string_form o ≡ (Unreadable, [])
   no_units None e q = refl
   no_units (Some x) e q = let d = units_sound (length bs) [] bs x e in absurd (nq d.0 x.1 q d.2)
+
   no_length : (n : ℕ) → sign_length (b ∷ bs) ≡ n → sign_form n (b ∷ bs) ≡ (Unreadable, [])
   no_length zero e = refl
   no_length (suc n) e = absurd (ns (take (suc n) (b ∷ bs)) (drop (suc n) (b ∷ bs)) (sign_begins b bs n e))
@@ -412,20 +462,20 @@ pub all_read : (n size : ℕ) (line : Bool) (bs : Bytes) → length bs ≤ n →
 all_read n size line [] l = end
 all_read zero size line (b ∷ bs) l = absurd (omega arith)
 all_read (suc n) size line (b ∷ bs) l = elim (tells (is_blank b)) [
-    | inl e ↦ subst (λ (ts : Tokens). AreTokens size line (b ∷ bs) ts) (sym (blank_first size line b bs e)) (blank e (all_read n size (line || ends_line b) bs (omega arith)))
-    | inr e ↦
+  | inl e ↦ subst (λ (ts : Tokens). AreTokens size line (b ∷ bs) ts) (sym (blank_first size line b bs e)) (blank e (all_read n size (line || ends_line b) bs (omega arith)))
+  | inr e ↦
       let rest = (form_at (b ∷ bs)).1 in
       subst (λ (ts : Tokens). AreTokens size line (b ∷ bs) ts) (sym (token_first size line b bs e))
-        (token' (is_token b bs e) (subst (λ (ts : Tokens). AreTokens size false (form_at (b ∷ bs)).1 ts) (sym (tokens_step size (form_at (b ∷ bs)).1)) (all_read n size false (form_at (b ∷ bs)).1 (omega (arith, form_shorter b bs)))))
-  ]
+      (token' (is_token b bs e) (subst (λ (ts : Tokens). AreTokens size false (form_at (b ∷ bs)).1 ts) (sym (tokens_step size (form_at (b ∷ bs)).1)) (all_read n size false (form_at (b ∷ bs)).1 (omega (arith, form_shorter b bs)))))
+]
 
 token_same : (size : ℕ) (line : Bool) (bs rest : Bytes) (form : Form) (ts : Tokens) → Reads bs form rest → ts ≡ tokens_of size rest
     → record { form = form; place = record { from = size - length bs; on_new_line = line } } ∷ ts ≡ tokens_at size line bs
 token_same size line bs rest form ts r e =
     subst (λ (cs : Bytes). record { form = form; place = record { from = size - length cs; on_new_line = line } } ∷ ts ≡ tokens_at size line cs) (sym r.is)
-      (sym (token_first size line r.head r.others r.no_blank
-      ∙ (ap (λ (f : Form × Bytes). record { form = f.0; place = record { from = size - length (r.head ∷ r.others); on_new_line = line } } ∷ tokens_of size f.1) r.read
-      ∙ ap (λ (us : Tokens). record { form = form; place = record { from = size - length (r.head ∷ r.others); on_new_line = line } } ∷ us) (sym e))))
+    (sym (token_first size line r.head r.others r.no_blank
+    ∙ (ap (λ (f : Form × Bytes). record { form = f.0; place = record { from = size - length (r.head ∷ r.others); on_new_line = line } } ∷ tokens_of size f.1) r.read
+    ∙ ap (λ (us : Tokens). record { form = form; place = record { from = size - length (r.head ∷ r.others); on_new_line = line } } ∷ us) (sym e))))
 
 pub read_alone : {size : ℕ} {line : Bool} {bs : Bytes} {ts : Tokens} → AreTokens size line bs ts → ts ≡ tokens_at size line bs
 read_alone end = refl

@@ -74,9 +74,9 @@ pub form_shorter : (b : ℕ) (bs : Bytes) → length (form_at (b ∷ bs)).1 ≤ 
 unfolding form_at
 form_shorter b bs =
     chosen_shorter (is_part b) (b == 34) (length bs) (Run (front is_part (b ∷ bs)), back is_part (b ∷ bs)) (string_form (units_from (length bs) [] bs)) (sign_form (sign_length (b ∷ bs)) (b ∷ bs))
-      (back_behind is_part b bs)
-      (string_form_shorter (length bs) (units_from (length bs) [] bs) (λ x h. units_shorter (length bs) [] bs x h))
-      (sign_form_shorter (sign_length (b ∷ bs)) b bs)
+    (back_behind is_part b bs)
+    (string_form_shorter (length bs) (units_from (length bs) [] bs) (λ x h. units_shorter (length bs) [] bs x h))
+    (sign_form_shorter (sign_length (b ∷ bs)) b bs)
 
 -- ---- the number of tokens is no matter
 
@@ -100,7 +100,7 @@ tokens_fuel zero m size bs l k = rw (none bs l) (sym (no_tokens m size))
 tokens_fuel (suc n) zero size bs l k = rw (none bs k) refl
 tokens_fuel (suc n) (suc m) size bs l k =
     first_fuel (λ rest. tokens_from n size rest) (λ rest. tokens_from m size rest) size (line_ends false bs) (back is_blank bs)
-      (λ rest h. tokens_fuel n m size rest (omega (arith, back_shorter is_blank bs)) (omega (arith, back_shorter is_blank bs)))
+    (λ rest h. tokens_fuel n m size rest (omega (arith, back_shorter is_blank bs)) (omega (arith, back_shorter is_blank bs)))
 
 -- the tokens of bytes, from the one at the front
 pub tokens_step : (size : ℕ) (bs : Bytes) → tokens_of size bs ≡ first (λ rest. tokens_of size rest) size (line_ends false bs) (back is_blank bs)
@@ -108,7 +108,7 @@ unfolding tokens_of tokens_from
 tokens_step size [] = refl
 tokens_step size (b ∷ bs) =
     first_fuel (λ rest. tokens_from (length bs) size rest) (λ rest. tokens_from (length rest) size rest) size (line_ends false (b ∷ bs)) (back is_blank (b ∷ bs))
-      (λ rest h. tokens_fuel (length bs) (length rest) size rest (omega (arith, back_shorter is_blank (b ∷ bs))) (omega arith))
+    (λ rest h. tokens_fuel (length bs) (length rest) size rest (omega (arith, back_shorter is_blank (b ∷ bs))) (omega arith))
 
 -- ---- what is asked of the front
 
@@ -208,12 +208,12 @@ sign_is_sign (suc n) bs = refl
 
 word_form : (b : ℕ) (bs : Bytes) → word_by (form_at (b ∷ bs)).0 ≡ front is_part (b ∷ bs)
 word_form b bs = elim (tells (is_part b)) [
-    | inl e ↦ ap (λ (f : Form × Bytes). word_by f.0) (form_run b bs e)
-    | inr e ↦ elim (tells (b == 34)) [
-      | inl q ↦ ap (λ (f : Form × Bytes). word_by f.0) (form_string b bs e q) ∙ (string_no_word (units_from (length bs) [] bs) ∙ sym (front_none is_part b bs e))
-      | inr q ↦ ap (λ (f : Form × Bytes). word_by f.0) (form_sign b bs e q) ∙ (sign_no_word (sign_length (b ∷ bs)) (b ∷ bs) ∙ sym (front_none is_part b bs e))
-    ]
+  | inl e ↦ ap (λ (f : Form × Bytes). word_by f.0) (form_run b bs e)
+  | inr e ↦ elim (tells (b == 34)) [
+    | inl q ↦ ap (λ (f : Form × Bytes). word_by f.0) (form_string b bs e q) ∙ (string_no_word (units_from (length bs) [] bs) ∙ sym (front_none is_part b bs e))
+    | inr q ↦ ap (λ (f : Form × Bytes). word_by f.0) (form_sign b bs e q) ∙ (sign_no_word (sign_length (b ∷ bs)) (b ∷ bs) ∙ sym (front_none is_part b bs e))
   ]
+]
 
 or_first : (x y : Bool) → x ≡ true → (x || y) ≡ true
 or_first true y e = refl
@@ -233,13 +233,13 @@ not_second false y e = e
 
 sign_form_is : (b : ℕ) (bs : Bytes) → sign_by (form_at (b ∷ bs)).0 ≡ take (sign_length (b ∷ bs)) (b ∷ bs)
 sign_form_is b bs = elim (tells (is_part b)) [
-    | inl e ↦ ap (λ (f : Form × Bytes). sign_by f.0) (form_run b bs e) ∙ sym (ap (λ (n : ℕ). take n (b ∷ bs)) (no_sign b bs (or_first (is_part b) (b == 34) e)))
-    | inr e ↦ elim (tells (b == 34)) [
-      | inl q ↦ ap (λ (f : Form × Bytes). sign_by f.0) (form_string b bs e q)
+  | inl e ↦ ap (λ (f : Form × Bytes). sign_by f.0) (form_run b bs e) ∙ sym (ap (λ (n : ℕ). take n (b ∷ bs)) (no_sign b bs (or_first (is_part b) (b == 34) e)))
+  | inr e ↦ elim (tells (b == 34)) [
+    | inl q ↦ ap (λ (f : Form × Bytes). sign_by f.0) (form_string b bs e q)
         ∙ (string_no_sign (units_from (length bs) [] bs) ∙ sym (ap (λ (n : ℕ). take n (b ∷ bs)) (no_sign b bs (or_second (is_part b) (b == 34) q))))
-      | inr q ↦ ap (λ (f : Form × Bytes). sign_by f.0) (form_sign b bs e q) ∙ sign_is_sign (sign_length (b ∷ bs)) (b ∷ bs)
-    ]
+    | inr q ↦ ap (λ (f : Form × Bytes). sign_by f.0) (form_sign b bs e q) ∙ sign_is_sign (sign_length (b ∷ bs)) (b ∷ bs)
   ]
+]
 
 word_first : (size : ℕ) (p : Bytes → Tokens) (line : Bool) (bs : Bytes) → word_of (first p size line bs) ≡ front is_part bs
 word_first size p line [] = refl
@@ -280,9 +280,9 @@ word_missing size bs e = after_none (word_of (tokens_of size bs)) (behind (token
 run_rest : (size : ℕ) (bs r : Bytes) (c : ℕ) (more : Bytes) → back is_blank bs ≡ r → front is_part r ≡ c ∷ more → behind (tokens_of size bs) ≡ tokens_of size (back is_part r)
 run_rest size bs [] c more is e = absurd cc
 run_rest size bs (b ∷ r) c more is e = elim (tells (is_part b)) [
-    | inl t ↦ behind_is size bs b r is ∙ ap (λ (f : Form × Bytes). tokens_of size f.1) (form_run b r t)
-    | inr t ↦ let empty = front_none is_part b r t in absurd cc
-  ]
+  | inl t ↦ behind_is size bs b r is ∙ ap (λ (f : Form × Bytes). tokens_of size f.1) (form_run b r t)
+  | inr t ↦ let empty = front_none is_part b r t in absurd cc
+]
 
 pub word_taken : (size : ℕ) (bs : Bytes) (c : ℕ) (more : Bytes) → front is_part (back is_blank bs) ≡ c ∷ more → after_word (tokens_of size bs) ≡ tokens_of size (back is_part (back is_blank bs))
 unfolding after_word
@@ -304,11 +304,11 @@ nothing_taken (suc n) r c more z e = omega arith
 sign_rest : (size : ℕ) (bs r : Bytes) (c : ℕ) (more : Bytes) → back is_blank bs ≡ r → take (sign_length r) r ≡ c ∷ more → behind (tokens_of size bs) ≡ tokens_of size (drop (sign_length r) r)
 sign_rest size bs [] c more is e = absurd (nothing_taken (sign_length []) [] c more (unfold sign_length in refl) e)
 sign_rest size bs (b ∷ r) c more is e = elim (tells (is_part b || b == 34)) [
-    | inl t ↦ absurd (nothing_taken (sign_length (b ∷ r)) (b ∷ r) c more (no_sign b r t) e)
-    | inr t ↦
+  | inl t ↦ absurd (nothing_taken (sign_length (b ∷ r)) (b ∷ r) c more (no_sign b r t) e)
+  | inr t ↦
       behind_is size bs b r is ∙ (ap (λ (f : Form × Bytes). tokens_of size f.1) (form_sign b r (not_first (is_part b) (b == 34) t) (not_second (is_part b) (b == 34) t))
       ∙ ap (λ (x : Bytes). tokens_of size x) (sign_form_rest (sign_length (b ∷ r)) (b ∷ r) c more e))
-  ]
+]
 
 pub sign_taken : (size : ℕ) (bs : Bytes) (c : ℕ) (more : Bytes) → take (sign_length (back is_blank bs)) (back is_blank bs) ≡ c ∷ more
     → after_sign (tokens_of size bs) ≡ tokens_of size (drop (sign_length (back is_blank bs)) (back is_blank bs))
@@ -356,12 +356,12 @@ string_form_read b bs x e =
 
 string_form_none : (b : ℕ) (bs : Bytes) → quoted (b ∷ bs) ≡ None → string_by (form_at (b ∷ bs)).0 ≡ None
 string_form_none b bs e = elim (tells (b == 34)) [
-    | inl q ↦ ap (λ (f : Form × Bytes). string_by f.0) (form_string b bs (no_quote_part b q) q) ∙ no_string_form (units_from (length bs) [] bs) (quote_none b bs e q)
-    | inr q ↦ elim (tells (is_part b)) [
-      | inl p ↦ ap (λ (f : Form × Bytes). string_by f.0) (form_run b bs p)
-      | inr p ↦ ap (λ (f : Form × Bytes). string_by f.0) (form_sign b bs p q) ∙ sign_no_string (sign_length (b ∷ bs)) (b ∷ bs)
-    ]
+  | inl q ↦ ap (λ (f : Form × Bytes). string_by f.0) (form_string b bs (no_quote_part b q) q) ∙ no_string_form (units_from (length bs) [] bs) (quote_none b bs e q)
+  | inr q ↦ elim (tells (is_part b)) [
+    | inl p ↦ ap (λ (f : Form × Bytes). string_by f.0) (form_run b bs p)
+    | inr p ↦ ap (λ (f : Form × Bytes). string_by f.0) (form_sign b bs p q) ∙ sign_no_string (sign_length (b ∷ bs)) (b ∷ bs)
   ]
+]
 
 no_string_first : (size : ℕ) (p : Bytes → Tokens) (line : Bool) (bs : Bytes) → quoted bs ≡ None → string_of (first p size line bs) ≡ None
 no_string_first size p line [] e = refl

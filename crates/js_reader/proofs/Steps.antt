@@ -84,8 +84,17 @@ not_empty (c ∷ x) m = refl
 pub name_head : (size turns : ℕ) (expr : Parser JsExpr) (stmt : Parser JsStmt) (x : Bytes) (q : Place) (rest : Tokens) → is_name x ≡ true → p.head size turns expr stmt (word x q ∷ rest) ≡ Ok (H.Name x, rest)
 unfolding p.head p.named
 name_head size turns expr stmt x q rest m =
-    rw (not_empty x m, other_name x (codes "null") m refl, other_name x (codes "undefined") m refl, other_name x (codes "true") m refl, other_name x (codes "false") m refl, other_name x (codes "String") m refl,
-      other_name x (codes "Array") m refl, m, name_same size x q rest m) refl
+    rw (
+      not_empty x m,
+      other_name x (codes "null") m refl,
+      other_name x (codes "undefined") m refl,
+      other_name x (codes "true") m refl,
+      other_name x (codes "false") m refl,
+      other_name x (codes "String") m refl,
+      other_name x (codes "Array") m refl,
+      m,
+      name_same size x q rest m,
+    ) refl
 
 abbrev starts_digit : Bytes → Bool
 starts_digit [] = false
@@ -110,8 +119,17 @@ number_no_name n k = digit_no_name (decimal n) (number_starts n k)
 pub digits_head : (size turns : ℕ) (expr : Parser JsExpr) (stmt : Parser JsStmt) (n : ℕ) (q : Place) (rest : Tokens) → n ≤ greatest → p.head size turns expr stmt (word (decimal n) q ∷ rest) ≡ Ok (H.Digits n, rest)
 unfolding p.head p.digits
 digits_head size turns expr stmt n q rest k =
-    rw (other_number n [] k refl, other_number n (codes "null") k refl, other_number n (codes "undefined") k refl, other_number n (codes "true") k refl, other_number n (codes "false") k refl, other_number n (codes "String") k refl,
-      other_number n (codes "Array") k refl, number_no_name n k, number_same size n q rest k) refl
+    rw (
+      other_number n [] k refl,
+      other_number n (codes "null") k refl,
+      other_number n (codes "undefined") k refl,
+      other_number n (codes "true") k refl,
+      other_number n (codes "false") k refl,
+      other_number n (codes "String") k refl,
+      other_number n (codes "Array") k refl,
+      number_no_name n k,
+      number_same size n q rest k,
+    ) refl
 
 -- ---- what follows
 
@@ -235,7 +253,7 @@ module _ (size turns : ℕ) (expr : Parser JsExpr) (stmt : Parser JsStmt) where
   index_last xs b q r after rest k c (suc zero) m = absurd (omega arith)
   index_last xs b q r after rest k c (suc (suc turn)) m =
       selectors_on (suc turn) xs (l.Index b) (sign (codes "[") q ∷ after) rest (Ok (xs ++ l.Index b ∷ [], rest)) refl (index_step b q r after rest k)
-        (selectors_none turn (xs ++ l.Index b ∷ []) rest c ∙ ap (λ (ys : List JsSelector). Ok (ys, rest)) (append-nil (xs ++ l.Index b ∷ [])))
+      (selectors_none turn (xs ++ l.Index b ∷ []) rest c ∙ ap (λ (ys : List JsSelector). Ok (ys, rest)) (append-nil (xs ++ l.Index b ∷ [])))
 
   pub call_step : (xs : List JsExpr) (q : Place) (ts mid : Tokens) → p.arguments size turns expr stmt (sign (codes "(") q ∷ ts) ≡ Ok (xs, mid) → p.selector size turns expr stmt (sign (codes "(") q ∷ ts) ≡ Ok (l.Call xs, mid)
   unfolding p.selector p.call
@@ -282,8 +300,12 @@ module _ (size turns : ℕ) (expr : Parser JsExpr) (stmt : Parser JsStmt) where
   pub new_map_step : (q r u v : Place) (rest : Tokens) → p.expression size turns expr stmt (word (codes "new") q ∷ word (codes "Map") r ∷ sign (codes "(") u ∷ sign (codes ")") v ∷ rest) ≡ Ok (e.NewMap, rest)
   unfolding p.expression p.new_map
   new_map_step q r u v rest =
-      rw (after_word_same 110 (codes "ew") q (word (codes "Map") r ∷ sign (codes "(") u ∷ sign (codes ")") v ∷ rest), expect_word_same size 77 (codes "ap") r (sign (codes "(") u ∷ sign (codes ")") v ∷ rest),
-        expect_same size 40 [] u (sign (codes ")") v ∷ rest), expect_same size 41 [] v rest) refl
+      rw (
+        after_word_same 110 (codes "ew") q (word (codes "Map") r ∷ sign (codes "(") u ∷ sign (codes ")") v ∷ rest),
+        expect_word_same size 77 (codes "ap") r (sign (codes "(") u ∷ sign (codes ")") v ∷ rest),
+        expect_same size 40 [] u (sign (codes ")") v ∷ rest),
+        expect_same size 41 [] v rest,
+      ) refl
 
   pub array_step : (xs : List JsExpr) (q : Place) (ts rest : Tokens) → p.listed size turns expr stmt (codes "]") ts ≡ Ok (xs, rest) → p.expression size turns expr stmt (sign (codes "[") q ∷ ts) ≡ Ok (e.Array xs, rest)
   unfolding p.expression p.array
@@ -371,7 +393,7 @@ module _ (size turns : ℕ) (expr : Parser JsExpr) (stmt : Parser JsStmt) where
   unfolding p.simple
   store_step a xs b c r u ts late rest m k =
       rw m (subst (λ (x : Target). p.assigned size turns expr stmt (place size ts) x (sign (codes "=") r ∷ late) ≡ Ok (s.Store (place size ts) (record { head = a; selectors = xs }) b c, rest)) (sym (aimed a xs b))
-        (slot_value (place size ts) (record { head = a; selectors = xs }) b c r u late rest k))
+      (slot_value (place size ts) (record { head = a; selectors = xs }) b c r u late rest k))
 
   pub perform_step : (a : JsPrimary) (r : Place) (ts rest : Tokens) → p.primary size turns expr stmt ts ≡ Ok (a, sign (codes ";") r ∷ rest) → p.simple size turns expr stmt ts ≡ Ok (s.Perform (place size ts) a, rest)
   unfolding p.simple p.performed
@@ -393,8 +415,13 @@ module _ (size turns : ℕ) (expr : Parser JsExpr) (stmt : Parser JsStmt) where
       → p.statement size turns expr stmt (word (codes "while") q ∷ sign (codes "(") r ∷ word (codes "true") u ∷ sign (codes ")") v ∷ ts) ≡ Ok (s.Loop q.from xs, rest)
   unfolding p.statement p.repeat
   loop_step xs q r u v ts rest k =
-      rw (after_word_same 119 (codes "hile") q (sign (codes "(") r ∷ word (codes "true") u ∷ sign (codes ")") v ∷ ts), expect_same size 40 [] r (word (codes "true") u ∷ sign (codes ")") v ∷ ts),
-        expect_word_same size 116 (codes "rue") u (sign (codes ")") v ∷ ts), expect_same size 41 [] v ts, k) refl
+      rw (
+        after_word_same 119 (codes "hile") q (sign (codes "(") r ∷ word (codes "true") u ∷ sign (codes ")") v ∷ ts),
+        expect_same size 40 [] r (word (codes "true") u ∷ sign (codes ")") v ∷ ts),
+        expect_word_same size 116 (codes "rue") u (sign (codes ")") v ∷ ts),
+        expect_same size 41 [] v ts,
+        k,
+      ) refl
 
   pub on_line_same : (ts : Tokens) → on_new_line ts ≡ false → on_line size ts ≡ Ok ts
   unfolding on_line
@@ -418,8 +445,15 @@ module _ (size turns : ℕ) (expr : Parser JsExpr) (stmt : Parser JsStmt) where
       → p.statement size turns expr stmt (word (codes "try") q ∷ ts) ≡ Ok (s.TryCatch q.from xs x ys, rest)
   unfolding p.statement p.tried p.caught
   catch_step x xs ys q r u v w ts mid rest m k c =
-      rw (after_word_same 116 (codes "ry") q ts, k, after_word_same 99 (codes "atch") r (sign (codes "(") u ∷ word x v ∷ sign (codes ")") w ∷ mid), expect_same size 40 [] u (word x v ∷ sign (codes ")") w ∷ mid),
-        fresh_same size [] x v (sign (codes ")") w ∷ mid) m refl, expect_same size 41 [] w mid, c) refl
+      rw (
+        after_word_same 116 (codes "ry") q ts,
+        k,
+        after_word_same 99 (codes "atch") r (sign (codes "(") u ∷ word x v ∷ sign (codes ")") w ∷ mid),
+        expect_same size 40 [] u (word x v ∷ sign (codes ")") w ∷ mid),
+        fresh_same size [] x v (sign (codes ")") w ∷ mid) m refl,
+        expect_same size 41 [] w mid,
+        c,
+      ) refl
 
   pub finally_step : (xs ys : List JsStmt) (q r : Place) (ts mid rest : Tokens) → p.block size turns expr stmt [] ts ≡ Ok (xs, word (codes "finally") r ∷ mid) → p.block size turns expr stmt [] mid ≡ Ok (ys, rest)
       → p.statement size turns expr stmt (word (codes "try") q ∷ ts) ≡ Ok (s.TryFinally q.from xs ys, rest)

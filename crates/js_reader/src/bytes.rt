@@ -23,11 +23,7 @@ pub fn is_digit(b: u8) -> bool
 fn is_part(b: u8) -> bool
     ensures { result ≡ tokens.is_part b }
 {
-    (b'a' <= b && b <= b'z')
-        || (b'A' <= b && b <= b'Z')
-        || is_digit(b)
-        || b == b'_'
-        || b == b'$'
+    (b'a' <= b && b <= b'z') || (b'A' <= b && b <= b'Z') || is_digit(b) || b == b'_' || b == b'$'
 }
 
 fn ends_line(b: u8) -> bool

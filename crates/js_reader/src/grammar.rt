@@ -139,7 +139,11 @@ impl<
 
     /// Expressions, and the sign that closes them.
     #[tactic(auto, unfolding(crate::specs::Parsing::listed))]
-    fn listed<'t>(&self, close: &[u8], bytes: &'t [u8]) -> Result<(Items<JsExpr>, &'t [u8]), JsFault>
+    fn listed<'t>(
+        &self,
+        close: &[u8],
+        bytes: &'t [u8],
+    ) -> Result<(Items<JsExpr>, &'t [u8]), JsFault>
         requires { Nests self.now.depth (E.pre self.now.expr) (E.post self.now.expr) (S.pre self.now.stmt) (S.post self.now.stmt) }
         ensures { Gives (λ x. (x.0, tokens_of self.now.source.size x.1.now)) result (spec.listed self.now.source.size self.now.turns (spec.expr_at self.now.source.size self.now.depth) (spec.stmt_at self.now.source.size self.now.depth) close.now (tokens_of self.now.source.size bytes.now)) }
     {
@@ -444,7 +448,11 @@ impl<
 
     /// A statement, and the name that it declares.
     #[tactic(auto, unfolding(crate::specs::Parsing::named_stmt))]
-    fn named_stmt<'t>(&self, names: &mut Declared<'t>, bytes: &'t [u8]) -> Result<(JsStmt, &'t [u8]), JsFault>
+    fn named_stmt<'t>(
+        &self,
+        names: &mut Declared<'t>,
+        bytes: &'t [u8],
+    ) -> Result<(JsStmt, &'t [u8]), JsFault>
         requires { Nests self.now.depth (E.pre self.now.expr) (E.post self.now.expr) (S.pre self.now.stmt) (S.post self.now.stmt) }
         ensures { Gives (λ x. ((x.0, names.new), tokens_of self.now.source.size x.1.now)) result (spec.named_stmt self.now.source.size self.now.turns (spec.expr_at self.now.source.size self.now.depth) (spec.stmt_at self.now.source.size self.now.depth) names.old (tokens_of self.now.source.size bytes.now)) }
     {
@@ -461,7 +469,11 @@ impl<
     }
 
     #[tactic(auto, using(crate::proofs::Turns::one_turn, crate::proofs::Turns::no_turn), unfolding(crate::specs::Parsing::stmts_from))]
-    fn stmts<'t>(&self, names: Declared<'t>, bytes: &'t [u8]) -> Result<(Items<JsStmt>, &'t [u8]), JsFault>
+    fn stmts<'t>(
+        &self,
+        names: Declared<'t>,
+        bytes: &'t [u8],
+    ) -> Result<(Items<JsStmt>, &'t [u8]), JsFault>
         requires { Nests self.now.depth (E.pre self.now.expr) (E.post self.now.expr) (S.pre self.now.stmt) (S.post self.now.stmt) }
         ensures { Gives (λ x. (x.0, tokens_of self.now.source.size x.1.now)) result (spec.stmts_from self.now.source.size self.now.turns (spec.expr_at self.now.source.size self.now.depth) (spec.stmt_at self.now.source.size self.now.depth) self.now.turns names.entry [] (tokens_of self.now.source.size bytes.now)) }
     {
@@ -481,7 +493,11 @@ impl<
     }
 
     #[tactic(auto, unfolding(crate::specs::Parsing::block))]
-    fn block<'t>(&self, names: Declared<'t>, bytes: &'t [u8]) -> Result<(Items<JsStmt>, &'t [u8]), JsFault>
+    fn block<'t>(
+        &self,
+        names: Declared<'t>,
+        bytes: &'t [u8],
+    ) -> Result<(Items<JsStmt>, &'t [u8]), JsFault>
         requires { Nests self.now.depth (E.pre self.now.expr) (E.post self.now.expr) (S.pre self.now.stmt) (S.post self.now.stmt) }
         ensures { Gives (λ x. (x.0, tokens_of self.now.source.size x.1.now)) result (spec.block self.now.source.size self.now.turns (spec.expr_at self.now.source.size self.now.depth) (spec.stmt_at self.now.source.size self.now.depth) names.entry (tokens_of self.now.source.size bytes.now)) }
     {
@@ -542,7 +558,12 @@ impl<
 
     /// What follows the target of an assignment.
     #[tactic(auto, unfolding(crate::specs::Parsing::assigned))]
-    fn assigned<'t>(&self, at: u64, target: Target, bytes: &'t [u8]) -> Result<(JsStmt, &'t [u8]), JsFault>
+    fn assigned<'t>(
+        &self,
+        at: u64,
+        target: Target,
+        bytes: &'t [u8],
+    ) -> Result<(JsStmt, &'t [u8]), JsFault>
         requires { Nests self.now.depth (E.pre self.now.expr) (E.post self.now.expr) (S.pre self.now.stmt) (S.post self.now.stmt) }
         ensures { Gives (λ x. (x.0, tokens_of self.now.source.size x.1.now)) result (spec.assigned self.now.source.size self.now.turns (spec.expr_at self.now.source.size self.now.depth) (spec.stmt_at self.now.source.size self.now.depth) at target (tokens_of self.now.source.size bytes.now)) }
     {
@@ -556,7 +577,15 @@ impl<
             Target::Slot(object, index) => {
                 let (value, after) = self.expr(after)?;
                 let rest = self.source.expect(b";", after)?;
-                Ok((JsStmt::Store { at, object, index, value }, rest))
+                Ok((
+                    JsStmt::Store {
+                        at,
+                        object,
+                        index,
+                        value,
+                    },
+                    rest,
+                ))
             }
             Target::Other => Err(self.source.fault(bytes)),
         }
@@ -564,7 +593,12 @@ impl<
 
     /// What follows a label.
     #[tactic(auto, unfolding(crate::specs::Parsing::labelled))]
-    fn labelled<'t>(&self, at: u64, target: Target, bytes: &'t [u8]) -> Result<(JsStmt, &'t [u8]), JsFault>
+    fn labelled<'t>(
+        &self,
+        at: u64,
+        target: Target,
+        bytes: &'t [u8],
+    ) -> Result<(JsStmt, &'t [u8]), JsFault>
         requires { Nests self.now.depth (E.pre self.now.expr) (E.post self.now.expr) (S.pre self.now.stmt) (S.post self.now.stmt) }
         ensures { Gives (λ x. (x.0, tokens_of self.now.source.size x.1.now)) result (spec.labelled self.now.source.size self.now.turns (spec.expr_at self.now.source.size self.now.depth) (spec.stmt_at self.now.source.size self.now.depth) at target (tokens_of self.now.source.size bytes.now)) }
     {
@@ -579,7 +613,12 @@ impl<
     }
 
     #[tactic(auto, unfolding(crate::specs::Parsing::performed))]
-    fn performed<'t>(&self, at: u64, primary: JsPrimary, bytes: &'t [u8]) -> Result<(JsStmt, &'t [u8]), JsFault>
+    fn performed<'t>(
+        &self,
+        at: u64,
+        primary: JsPrimary,
+        bytes: &'t [u8],
+    ) -> Result<(JsStmt, &'t [u8]), JsFault>
         requires { Nests self.now.depth (E.pre self.now.expr) (E.post self.now.expr) (S.pre self.now.stmt) (S.post self.now.stmt) }
         ensures { Gives (λ x. (x.0, tokens_of self.now.source.size x.1.now)) result (spec.performed self.now.source.size self.now.turns (spec.expr_at self.now.source.size self.now.depth) (spec.stmt_at self.now.source.size self.now.depth) at primary (tokens_of self.now.source.size bytes.now)) }
     {
@@ -628,7 +667,15 @@ impl<
         let (word, more) = self.source.word(after);
         if word == b"else".as_slice() {
             let (fails, rest) = self.plain_block(more)?;
-            return Ok((JsStmt::IfElse { at, test, holds, fails }, rest));
+            return Ok((
+                JsStmt::IfElse {
+                    at,
+                    test,
+                    holds,
+                    fails,
+                },
+                rest,
+            ));
         }
         Ok((JsStmt::If { at, test, holds }, after))
     }
@@ -688,7 +735,12 @@ impl<
 
     /// What follows the block of a `try` that has a `catch`.
     #[tactic(auto, unfolding(crate::specs::Parsing::caught))]
-    fn caught<'t>(&self, at: u64, body: Items<JsStmt>, bytes: &'t [u8]) -> Result<(JsStmt, &'t [u8]), JsFault>
+    fn caught<'t>(
+        &self,
+        at: u64,
+        body: Items<JsStmt>,
+        bytes: &'t [u8],
+    ) -> Result<(JsStmt, &'t [u8]), JsFault>
         requires { Nests self.now.depth (E.pre self.now.expr) (E.post self.now.expr) (S.pre self.now.stmt) (S.post self.now.stmt) }
         ensures { Gives (λ x. (x.0, tokens_of self.now.source.size x.1.now)) result (spec.caught self.now.source.size self.now.turns (spec.expr_at self.now.source.size self.now.depth) (spec.stmt_at self.now.source.size self.now.depth) at body (tokens_of self.now.source.size bytes.now)) }
     {
@@ -698,12 +750,25 @@ impl<
         let (name, after) = self.source.fresh_name(&mut names, after)?;
         let after = self.source.expect(b")", after)?;
         let (handler, rest) = self.block(names, after)?;
-        Ok((JsStmt::TryCatch { at, body, name, handler }, rest))
+        Ok((
+            JsStmt::TryCatch {
+                at,
+                body,
+                name,
+                handler,
+            },
+            rest,
+        ))
     }
 
     /// What follows the block of a `try` that has a `finally`.
     #[tactic(auto, unfolding(crate::specs::Parsing::finished))]
-    fn finished<'t>(&self, at: u64, body: Items<JsStmt>, bytes: &'t [u8]) -> Result<(JsStmt, &'t [u8]), JsFault>
+    fn finished<'t>(
+        &self,
+        at: u64,
+        body: Items<JsStmt>,
+        bytes: &'t [u8],
+    ) -> Result<(JsStmt, &'t [u8]), JsFault>
         requires { Nests self.now.depth (E.pre self.now.expr) (E.post self.now.expr) (S.pre self.now.stmt) (S.post self.now.stmt) }
         ensures { Gives (λ x. (x.0, tokens_of self.now.source.size x.1.now)) result (spec.finished self.now.source.size self.now.turns (spec.expr_at self.now.source.size self.now.depth) (spec.stmt_at self.now.source.size self.now.depth) at body (tokens_of self.now.source.size bytes.now)) }
     {
@@ -753,7 +818,11 @@ impl<
     }
 
     #[tactic(auto, unfolding(crate::specs::Parsing::declared_function))]
-    fn declared_function<'t>(&self, names: &mut Declared<'t>, bytes: &'t [u8]) -> Result<(JsItem, &'t [u8]), JsFault>
+    fn declared_function<'t>(
+        &self,
+        names: &mut Declared<'t>,
+        bytes: &'t [u8],
+    ) -> Result<(JsItem, &'t [u8]), JsFault>
         requires { Nests self.now.depth (E.pre self.now.expr) (E.post self.now.expr) (S.pre self.now.stmt) (S.post self.now.stmt) }
         ensures { Gives (λ x. ((x.0, names.new), tokens_of self.now.source.size x.1.now)) result (spec.declared_function self.now.source.size self.now.turns (spec.expr_at self.now.source.size self.now.depth) (spec.stmt_at self.now.source.size self.now.depth) names.old (tokens_of self.now.source.size bytes.now)) }
     {
@@ -764,7 +833,11 @@ impl<
     }
 
     #[tactic(auto, unfolding(crate::specs::Parsing::variable))]
-    fn variable<'t>(&self, names: &mut Declared<'t>, bytes: &'t [u8]) -> Result<(JsItem, &'t [u8]), JsFault>
+    fn variable<'t>(
+        &self,
+        names: &mut Declared<'t>,
+        bytes: &'t [u8],
+    ) -> Result<(JsItem, &'t [u8]), JsFault>
         requires { Nests self.now.depth (E.pre self.now.expr) (E.post self.now.expr) (S.pre self.now.stmt) (S.post self.now.stmt) }
         ensures { Gives (λ x. ((x.0, names.new), tokens_of self.now.source.size x.1.now)) result (spec.variable self.now.source.size self.now.turns (spec.expr_at self.now.source.size self.now.depth) (spec.stmt_at self.now.source.size self.now.depth) names.old (tokens_of self.now.source.size bytes.now)) }
     {
@@ -778,7 +851,11 @@ impl<
     }
 
     #[tactic(auto, unfolding(crate::specs::Parsing::item_stmt))]
-    fn item_stmt<'t>(&self, names: &mut Declared<'t>, bytes: &'t [u8]) -> Result<(JsItem, &'t [u8]), JsFault>
+    fn item_stmt<'t>(
+        &self,
+        names: &mut Declared<'t>,
+        bytes: &'t [u8],
+    ) -> Result<(JsItem, &'t [u8]), JsFault>
         requires { Nests self.now.depth (E.pre self.now.expr) (E.post self.now.expr) (S.pre self.now.stmt) (S.post self.now.stmt) }
         ensures { Gives (λ x. ((x.0, names.new), tokens_of self.now.source.size x.1.now)) result (spec.item_stmt self.now.source.size self.now.turns (spec.expr_at self.now.source.size self.now.depth) (spec.stmt_at self.now.source.size self.now.depth) names.old (tokens_of self.now.source.size bytes.now)) }
     {
@@ -787,7 +864,11 @@ impl<
     }
 
     #[tactic(auto, unfolding(crate::specs::Parsing::item))]
-    fn item<'t>(&self, names: &mut Declared<'t>, bytes: &'t [u8]) -> Result<(JsItem, &'t [u8]), JsFault>
+    fn item<'t>(
+        &self,
+        names: &mut Declared<'t>,
+        bytes: &'t [u8],
+    ) -> Result<(JsItem, &'t [u8]), JsFault>
         requires { Nests self.now.depth (E.pre self.now.expr) (E.post self.now.expr) (S.pre self.now.stmt) (S.post self.now.stmt) }
         ensures { Gives (λ x. ((x.0, names.new), tokens_of self.now.source.size x.1.now)) result (spec.item self.now.source.size self.now.turns (spec.expr_at self.now.source.size self.now.depth) (spec.stmt_at self.now.source.size self.now.depth) names.old (tokens_of self.now.source.size bytes.now)) }
     {

@@ -22,3 +22,6 @@ mod words;
 
 pub use fault::JsFault;
 pub use read::{one_token_list, one_tree, read_file};
+
+#[cfg(test)]
+mod tests;
