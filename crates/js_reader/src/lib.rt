@@ -21,7 +21,7 @@ mod targets;
 mod words;
 
 pub use fault::JsFault;
-pub use read::{one_token_list, one_tree, read_file};
+pub use read::{one_token_list, one_tree, printed_is_read_back, read_file};
 
 #[cfg(test)]
 mod tests;

@@ -5,7 +5,7 @@ ghost use Rattle.js_tree.specs.Spelling.{IsSpelled};
 ghost use Rattle.js_reader.specs.Scanning.{tokens_of};
 ghost use Rattle.js_reader.specs.Taking.{Gives};
 ghost use Rattle.js_reader.specs.Parsing as spec;
-ghost use Rattle.js_reader.specs.Faults.{IsFaultOf, OneTree, OneTokenList};
+ghost use Rattle.js_reader.specs.Faults.{IsFaultOf, OneTree, OneTokenList, PrintedIsReadBack};
 
 use crate::fault::JsFault;
 use crate::grammar::{Grammar, expr, stmt};
@@ -50,4 +50,9 @@ pub fn one_token_list()
 /// A law: bytes are a spelling of at most one tree.
 pub fn one_tree()
     ensures { OneTree }
+{}
+
+/// A law: a printed file that has a spelling is read back as the tree that was printed, but for its places.
+pub fn printed_is_read_back()
+    ensures { PrintedIsReadBack }
 {}
