@@ -1,5 +1,5 @@
 -- The last one of a list, and the last selector.
-use Rattle.std.proofs.Common.{◌≡◌, List, [], ◌∷◌, ◌++◌, Option, Some, None, refl, sym, ap, ◌∙◌}
+use Rattle.std.proofs.Common.{◌≡◌, List, [], ◌∷◌, ◌++◌, Some, refl, sym, ap, ◌∙◌}
 use Rattle.std.specs.Prelude.{unwrap_or, option_map, codes}
 use Rattle.js_tree.specs.declared.tree.JsExpr.{JsExpr}
 use Rattle.js_tree.specs.declared.tree.JsHead.{JsHead}
@@ -11,7 +11,6 @@ use Rattle.js_tree.specs.Words.{member_text}
 use Rattle.js_tree.specs.Tokens.{Place, Tokens}
 use Rattle.js_tree.specs.Grammar as g
 use Rattle.js_tree.specs.Grammar.{word, sign, IsExpr, AreSelectors}
-use Rattle.js_reader.specs.declared.targets.Target.{Target}
 use Rattle.js_reader.specs.declared.targets.Target.TheVariants as t
 use Rattle.js_reader.specs.Parsing.{split_last, slot_by, slot}
 

@@ -1,10 +1,8 @@
 -- Names in another order.
 use Rattle.std.proofs.Common.{◌≡◌, Bool, true, false, List, [], ◌∷◌, ◌++◌, refl, sym, ap, ◌∙◌}
 use Rattle.std.specs.Prelude.{◌||◌}
-use Rattle.std.specs.List.{list_any}
 use Rattle.std.specs.Str.{bytes_eq}
 use Rattle.js_tree.specs.declared.tree.JsStmt.{JsStmt}
-use Rattle.js_tree.specs.declared.tree.JsStmt.TheVariants as s
 use Rattle.js_tree.specs.Tokens.{Bytes, Tokens}
 use Rattle.js_tree.specs.Grammar as g
 use Rattle.js_tree.specs.Grammar.{Names, is_among, declared, IsBlock, AreStmts, IsStmt}

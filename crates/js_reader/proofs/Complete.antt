@@ -1,12 +1,8 @@
 -- What is derived is parsed: all forms together.
-use Rattle.std.proofs.Common.{◌≡◌, ◌⊎◌, ℕ, zero, suc, ◌+◌, ◌<◌, ◌≤◌, Bool, true, false, cond, List, [], ◌∷◌, ◌++◌, length, Option, Some, None, Result, Ok, Err, refl, sym, ap, ◌∙◌, subst, inl, inr, arith, append_assoc}
-use Rattle.std.specs.Prelude.{not, ◌&&◌, ◌||◌, ◌==◌, codes}
-use Rattle.std.specs.List.{list_all, list_any}
-use Rattle.std.specs.Str.{bytes_eq}
-use Rattle.std.specs.Fmt.{decimal}
+use Rattle.std.proofs.Common.{◌≡◌, ℕ, zero, suc, ◌<◌, ◌≤◌, true, false, List, [], ◌∷◌, ◌++◌, length, Ok, refl, sym, ap, ◌∙◌, subst, arith, append_assoc}
+use Rattle.std.specs.Prelude.{codes}
 use Rattle.std.proofs.lemmas.List.{append-nil}
 use Rattle.js_tree.specs.declared.tree.JsExpr.{JsExpr}
-use Rattle.js_tree.specs.declared.tree.JsExpr.TheVariants as e
 use Rattle.js_tree.specs.declared.tree.JsHead.{JsHead}
 use Rattle.js_tree.specs.declared.tree.JsHead.TheVariants as H
 use Rattle.js_tree.specs.declared.tree.JsSelector.{JsSelector}
@@ -18,24 +14,16 @@ use Rattle.js_tree.specs.declared.tree.JsStmt.{JsStmt}
 use Rattle.js_tree.specs.declared.tree.JsStmt.TheVariants as s
 use Rattle.js_tree.specs.declared.tree.JsItem.{JsItem}
 use Rattle.js_tree.specs.declared.tree.JsItem.TheVariants as i
-use Rattle.js_tree.specs.declared.words.JsMember.{JsMember}
-use Rattle.js_tree.specs.declared.words.JsOperator.{JsOperator}
-use Rattle.js_tree.specs.declared.words.JsOperator.TheVariants as o
-use Rattle.js_tree.specs.Words.{member_text, operator_text}
-use Rattle.js_tree.specs.Tokens.{Bytes, is_digit, is_part, Place, Token, Tokens}
+use Rattle.js_tree.specs.Words.{member_text}
+use Rattle.js_tree.specs.Tokens.{Bytes, Place, Tokens}
 use Rattle.js_tree.specs.Grammar as g
 use Rattle.js_tree.specs.Grammar.{word, quoted, sign, start, next_is, Names, is_name, is_among, greatest, declared, AreNames, AreParameters, IsExpr, AreEntries, AreExprs, AreListed, AreArguments, IsPrimary, IsHead, AreSelectors, IsFunction, IsBlock, AreStmts, IsStmt, AreItems}
-use Rattle.js_reader.specs.declared.targets.Target.{Target}
-use Rattle.js_reader.specs.declared.targets.Target.TheVariants as t
-use Rattle.js_reader.specs.Taking.{Found, Parser, ◌>>=◌, place, on_new_line, is_end, sign_of, word_of, after_sign, after_word, sign_is, word_is, operator_of, expect, expect_word, on_line, name_at, fresh_name, number_at, member_at, string_at}
+use Rattle.js_reader.specs.Taking.{Found, place, is_end, sign_of, after_sign, sign_is, word_is}
 use Rattle.js_reader.specs.Parsing as p
 use Rattle.js_reader.specs.Parsing.{literal_of, selects, expr_at, stmt_at}
-use Rattle.js_reader.proofs.Fronted.{sign_next, expect_same, expect_word_same, after_sign_same, after_word_same, name_same, fresh_same, number_same, member_same, operator_found, operator_after, string_same, next_is_sign, bytes_refl}
-use Rattle.js_reader.proofs.Fronts.{clash}
-use Rattle.js_reader.proofs.Digits.{bytes_same}
+use Rattle.js_reader.proofs.Fronted.{sign_next, after_sign_same, next_is_sign}
 use Rattle.js_reader.proofs.Firsts as f
 use Rattle.js_reader.proofs.Firsts.{head_word, primary_word, primary_sign, expr_sign, exprs_sign, word_not, name_begins, digits_begin}
-use Rattle.js_reader.proofs.Aimed.{last_one, slot_index}
 use Rattle.js_reader.proofs.Alike.{IsSame, same_stmt, same_more}
 use Rattle.js_reader.proofs.Steps as u
 use Rattle.js_reader.proofs.Steps.{Ends}

@@ -1,7 +1,6 @@
 -- A derivation takes tokens, and what it begins with.
-use Rattle.std.proofs.Common.{◌≡◌, ◌⊎◌, ℕ, zero, suc, ◌+◌, ◌<◌, ◌≤◌, Bool, true, false, cond, List, [], ◌∷◌, ◌++◌, length, Option, Some, None, refl, sym, ap, ◌∙◌, subst, inl, inr, arith}
-use Rattle.std.specs.Prelude.{not, ◌&&◌, ◌||◌, ◌==◌, codes}
-use Rattle.std.specs.List.{list_all, list_any}
+use Rattle.std.proofs.Common.{◌≡◌, ℕ, ◌<◌, ◌≤◌, Bool, true, false, List, [], ◌∷◌, length, refl, sym, ap, ◌∙◌, subst, arith}
+use Rattle.std.specs.Prelude.{◌||◌, codes}
 use Rattle.std.specs.Str.{bytes_eq}
 use Rattle.std.specs.Fmt.{decimal}
 use Rattle.std.specs.Str.Parse.{AllDigits}
@@ -16,10 +15,10 @@ use Rattle.js_tree.specs.declared.tree.JsFunction.{JsFunction}
 use Rattle.js_tree.specs.declared.tree.JsEntry.{JsEntry}
 use Rattle.js_tree.specs.declared.tree.JsStmt.{JsStmt}
 use Rattle.js_tree.specs.declared.tree.JsItem.{JsItem}
-use Rattle.js_tree.specs.Tokens.{Bytes, is_digit, is_part, Place, Token, Tokens}
+use Rattle.js_tree.specs.Tokens.{Bytes, is_digit, Tokens}
 use Rattle.js_tree.specs.Grammar as g
 use Rattle.js_tree.specs.Grammar.{Names, is_name, greatest, AreNames, AreParameters, IsExpr, AreEntries, AreExprs, AreListed, AreArguments, IsPrimary, IsHead, AreSelectors, IsFunction, IsBlock, AreStmts, IsStmt, AreItems}
-use Rattle.js_reader.specs.Taking.{sign_of, word_of, sign_is, word_is}
+use Rattle.js_reader.specs.Taking.{sign_is, word_is}
 use Rattle.js_reader.proofs.Fronts.{clash}
 use Rattle.js_reader.proofs.Digits.{bytes_same, greatest_small}
 

@@ -1,18 +1,17 @@
 -- What an answer of a parser's parts says.
-use Rattle.std.proofs.Common.{◌≡◌, ◌⊎◌, ℕ, zero, suc, ◌+◌, ◌<◌, ◌≤◌, Bool, true, false, cond, List, [], ◌∷◌, ◌++◌, length, Option, Some, None, Result, Ok, Err, refl, sym, ap, ◌∙◌, subst, inl, inr, arith}
-use Rattle.std.specs.Prelude.{not, ◌&&◌, ◌||◌, ◌==◌, codes}
+use Rattle.std.proofs.Common.{◌≡◌, ◌⊎◌, ℕ, ◌<◌, ◌≤◌, Bool, true, false, cond, List, [], ◌∷◌, length, Option, Some, None, Result, Ok, Err, refl, sym, ap, ◌∙◌, subst, inl, inr, arith}
+use Rattle.std.specs.Prelude.{not, ◌&&◌, codes}
 use Rattle.std.specs.Str.{bytes_eq}
 use Rattle.std.specs.Fmt.{decimal}
 use Rattle.std.proofs.lemmas.Fmt.{decimal_is_IsNumeral}
 use Rattle.js_tree.specs.Tokens.{Bytes, Form, Run, Quoted, Sign, Unreadable, Place, Token, Tokens}
-use Rattle.js_tree.specs.Grammar.{word, quoted, sign, start, is_sign_form, next_is, Names, is_name, is_among, greatest}
+use Rattle.js_tree.specs.Grammar.{word, quoted, sign, is_sign_form, next_is, Names, is_name, is_among, greatest}
 use Rattle.js_tree.specs.declared.words.JsMember.{JsMember}
 use Rattle.js_tree.specs.declared.words.JsOperator.{JsOperator}
 use Rattle.js_tree.specs.declared.words.JsMember.TheVariants as mm
 use Rattle.js_tree.specs.declared.words.JsOperator.TheVariants as oo
 use Rattle.js_tree.specs.Words.{member_text, operator_text}
-use Rattle.js_reader.specs.Taking.{Found, Parser, ◌>>=◌, place, on_new_line, sign_by, word_by, string_by, sign_of, word_of, string_of, behind, is_some_text, after_sign, after_word, sign_is, word_is, number_of, member_of, operator_of, expect, expect_word, on_line, name_at, fresh_name, found_by, number_at, member_at, string_at}
-use Rattle.js_reader.proofs.Fronts.{tells, clash}
+use Rattle.js_reader.specs.Taking.{◌>>=◌, place, on_new_line, sign_by, word_by, string_by, sign_of, word_of, is_some_text, after_sign, after_word, sign_is, word_is, number_of, member_of, operator_of, expect, expect_word, on_line, name_at, fresh_name, found_by, number_at, member_at, string_at}
 use Rattle.js_reader.proofs.Digits.{bytes_same, same_bytes, digits_are, digits_found, greatest_small}
 
 pub bind_ok : {A B : Type 0} (o : Result A ℕ) (f : A → Result B ℕ) (y : B) → (o >>= f) ≡ Ok y → (x : A) × (o ≡ Ok x) × (f x ≡ Ok y)

@@ -1,11 +1,11 @@
 -- The tokens that are read are those of the bytes, and no others are.
-use Rattle.std.proofs.Common.{◌≡◌, ◌⊎◌, ℕ, zero, suc, ◌+◌, ◌-◌, ◌*◌, ◌<◌, ◌≤◌, Bool, true, false, cond, List, [], ◌∷◌, ◌++◌, length, take, drop, Option, Some, None, refl, sym, ap, ◌∙◌, subst, inl, inr, arith, append_assoc}
-use Rattle.std.specs.Prelude.{not, ◌&&◌, ◌||◌, ◌==◌, codes}
+use Rattle.std.proofs.Common.{◌≡◌, ◌⊎◌, ℕ, zero, suc, ◌-◌, ◌<◌, ◌≤◌, Bool, true, false, cond, List, [], ◌∷◌, ◌++◌, length, take, drop, Option, Some, None, refl, sym, ap, ◌∙◌, subst, inl, inr, arith, append_assoc}
+use Rattle.std.specs.Prelude.{◌&&◌, ◌||◌, ◌==◌, codes}
 use Rattle.std.specs.List.{list_all, list_any}
 use Rattle.std.specs.Str.{bytes_eq}
 use Rattle.std.proofs.lemmas.Bool.{eqb-true, eq-eqb, and_parts}
 use Rattle.std.proofs.lemmas.List.{append-nil, take-append-drop, length-take-le, take_at, drop_at}
-use Rattle.js_tree.specs.Tokens.{Bytes, is_digit, is_part, is_blank, is_plain, is_hex, hex_value, ends_line, signs, is_sign, BeginsWith, IsQuoted, close, plain, escape, unicode, Form, Run, Quoted, Sign, Unreadable, Token, Tokens, EndsRun, is_run, IsToken, run, quoted as quoted_token, sign', unreadable, AreTokens, end, blank, token'}
+use Rattle.js_tree.specs.Tokens.{Bytes, is_part, is_blank, is_plain, is_hex, ends_line, signs, is_sign, BeginsWith, IsQuoted, close, plain, escape, unicode, Form, Run, Sign, Unreadable, Tokens, EndsRun, is_run, IsToken, run, quoted as quoted_token, sign', unreadable, AreTokens, end, blank, token'}
 use Rattle.js_reader.specs.Scanning.{front, back, line_ends, begins, begins_twice, is_single, length_from, sign_length, unit_of, hexadecimal, escaped, unit_at, and_then, units_from, string_form, sign_form, form_at, first, tokens_of}
 use Rattle.js_reader.proofs.Fronts.{tells, clash, front-back, sign_fits}
 use Rattle.js_reader.proofs.Scanned.{some_is, not_first, not_second, form_shorter, form_run, form_string, form_sign, tokens_step}

@@ -1,15 +1,13 @@
 -- Names, and lists of names.
-use Rattle.std.proofs.Common.{◌≡◌, ℕ, Bool, true, false, cond, List, [], ◌∷◌, ◌++◌, map, reverse, refl, sym, ap, ◌∙◌, inl, inr}
+use Rattle.std.proofs.Common.{◌≡◌, ℕ, Bool, true, false, cond, List, [], ◌∷◌, ◌++◌, map, reverse, refl, ap, ◌∙◌}
 use Rattle.std.specs.Prelude.{not, ◌&&◌, ◌||◌}
 use Rattle.std.specs.List.{list_all, list_any}
 use Rattle.std.specs.Str.{bytes_eq}
 use Rattle.std.proofs.lemmas.List.{map-append, reverse-append}
-use Rattle.indexmap.specs.IndexSet.{insert_key}
 use Rattle.js_tree.specs.Tokens.{Bytes, is_part}
-use Rattle.js_tree.specs.Grammar.{Names, is_among}
+use Rattle.js_tree.specs.Grammar.{is_among}
 use Rattle.js_reader.specs.Scanning.{back}
 use Rattle.js_reader.specs.Taking.{added}
-use Rattle.js_reader.proofs.Fronts.{tells}
 
 pub all_of : (p : ℕ → Bool) (bs : Bytes) → back p bs ≡ [] → list_all p bs ≡ true
 all_of p [] e = refl

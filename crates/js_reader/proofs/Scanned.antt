@@ -1,12 +1,12 @@
 -- How the tokens of bytes begin.
-use Rattle.std.proofs.Common.{◌≡◌, ℕ, zero, suc, ◌+◌, ◌-◌, ◌<◌, ◌≤◌, Bool, true, false, cond, List, [], ◌∷◌, ◌++◌, length, take, drop, Option, Some, None, refl, sym, ap, ◌∙◌, subst, inl, inr, arith}
+use Rattle.std.proofs.Common.{◌≡◌, ℕ, zero, suc, ◌-◌, ◌<◌, ◌≤◌, Bool, true, false, cond, List, [], ◌∷◌, ◌++◌, length, take, drop, Option, Some, None, refl, sym, ap, ◌∙◌, inl, inr, arith}
 use Rattle.std.specs.Prelude.{not, ◌&&◌, ◌||◌, ◌==◌}
 use Rattle.std.proofs.lemmas.List.{length-drop}
 use Rattle.std.proofs.lemmas.Bool.{eqb-true}
-use Rattle.js_tree.specs.Tokens.{Bytes, is_part, is_blank, is_plain, is_hex, ends_line, Form, Run, Quoted, Sign, Unreadable, Token, Tokens}
+use Rattle.js_tree.specs.Tokens.{Bytes, is_part, is_blank, is_plain, is_hex, Form, Run, Tokens}
 use Rattle.js_reader.specs.Scanning.{front, back, line_ends, begins, length_from, sign_length, unit_of, hexadecimal, escaped, unit_at, and_then, units_from, quoted, string_form, sign_form, form_at, first, tokens_from, tokens_of}
 use Rattle.js_reader.specs.Taking.{place, is_end, on_new_line, word_of, sign_of, string_of, word_by, sign_by, string_by, behind, is_some_text, after_word, after_sign}
-use Rattle.js_reader.proofs.Fronts.{tells, clash, back_shorter}
+use Rattle.js_reader.proofs.Fronts.{tells, back_shorter}
 
 -- ---- a token takes a byte
 

@@ -1,7 +1,6 @@
 -- What is parsed is derived.
-use Rattle.std.proofs.Common.{◌≡◌, ◌⊎◌, ℕ, zero, suc, ◌+◌, ◌<◌, ◌≤◌, Bool, true, false, cond, List, [], ◌∷◌, ◌++◌, length, Option, Some, None, Result, Ok, Err, unwrap_or, refl, sym, ap, ◌∙◌, subst, inl, inr, arith, append_assoc}
-use Rattle.std.specs.Prelude.{not, ◌&&◌, ◌||◌, ◌==◌, codes}
-use Rattle.std.specs.Str.{bytes_eq}
+use Rattle.std.proofs.Common.{◌≡◌, ℕ, zero, suc, Bool, true, false, List, [], ◌∷◌, ◌++◌, Option, Some, None, Ok, unwrap_or, refl, sym, ap, ◌∙◌, subst, inl, inr, append_assoc}
+use Rattle.std.specs.Prelude.{◌||◌, codes}
 use Rattle.std.specs.Fmt.{decimal}
 use Rattle.std.proofs.lemmas.List.{append-nil}
 use Rattle.js_tree.specs.declared.tree.JsExpr.{JsExpr}
@@ -18,14 +17,13 @@ use Rattle.js_tree.specs.declared.tree.JsStmt.TheVariants as s
 use Rattle.js_tree.specs.declared.tree.JsItem.{JsItem}
 use Rattle.js_tree.specs.declared.tree.JsItem.TheVariants as i
 use Rattle.js_tree.specs.declared.words.JsOperator.{JsOperator}
-use Rattle.js_tree.specs.Words.{member_text, operator_text}
+use Rattle.js_tree.specs.Words.{member_text}
 use Rattle.js_tree.specs.Tokens.{Bytes, Place, Token, Tokens}
 use Rattle.js_tree.specs.Grammar as g
 use Rattle.js_tree.specs.Grammar.{word, quoted, sign, start, next_is, Names, is_name, is_among, declared, AreNames, AreParameters, IsExpr, AreEntries, AreExprs, AreListed, AreArguments, IsPrimary, IsHead, AreSelectors, IsFunction, IsBlock, AreStmts, IsStmt, AreItems}
-use Rattle.js_reader.specs.Taking.{Found, Parser, ◌>>=◌, place, on_new_line, is_end, sign_of, word_of, after_sign, after_word, sign_is, word_is, operator_of, expect, expect_word, on_line, name_at, fresh_name, number_at, member_at, string_at}
+use Rattle.js_reader.specs.Taking.{Parser, ◌>>=◌, place, on_new_line, is_end, sign_of, word_of, after_sign, after_word, sign_is, word_is, operator_of, expect, expect_word, on_line, name_at, fresh_name, number_at, member_at, string_at}
 use Rattle.js_reader.specs.Parsing as p
 use Rattle.js_reader.specs.Parsing.{literal_of, selects}
-use Rattle.js_reader.proofs.Fronts.{tells, clash}
 use Rattle.js_reader.proofs.Fronted.{bind_ok, ok_is, chosen, sign_next, word_next, expect_sound, expect_word_sound, on_line_sound, name_sound, fresh_sound, number_sound, member_sound, operator_next, string_sound, next_is_sign, after_sign_same}
 use Rattle.js_reader.specs.declared.targets.Target.{Target}
 use Rattle.js_reader.specs.declared.targets.Target.TheVariants as t

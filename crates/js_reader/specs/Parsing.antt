@@ -1,6 +1,6 @@
 -- Parsing from a place of a file of this size, with one token in view. The number that bounds turns and depth is greater
 -- than the number of tokens that are left, so that it never runs out.
-use Rattle.std.specs.Prelude.{◌≡◌, ℕ, zero, suc, Bool, true, false, ◌||◌, if◌then◌else◌, List, [], ◌∷◌, ◌++◌, Option, Some, None, unwrap_or, option_map, Result, Ok, Err, codes}
+use Rattle.std.specs.Prelude.{ℕ, zero, suc, Bool, true, false, ◌||◌, if◌then◌else◌, List, [], ◌∷◌, ◌++◌, Option, Some, None, unwrap_or, option_map, Result, Ok, Err, codes}
 use Rattle.std.specs.Str.{bytes_eq}
 use Rattle.js_tree.specs.declared.tree.JsExpr.{JsExpr}
 use Rattle.js_tree.specs.declared.tree.JsExpr.TheVariants as e
@@ -21,7 +21,7 @@ use Rattle.js_tree.specs.Tokens.{Bytes, Tokens}
 use Rattle.js_tree.specs.Grammar.{Names, is_name}
 use Rattle.js_reader.specs.declared.targets.Target.{Target}
 use Rattle.js_reader.specs.declared.targets.Target.TheVariants as t
-use Rattle.js_reader.specs.Taking.{Found, Parser, ◌>>=◌, place, is_end, sign_of, word_of, after_sign, after_word, sign_is, word_is, operator_of, expect, expect_word, on_line, name_at, fresh_name, number_at, member_at, string_at}
+use Rattle.js_reader.specs.Taking.{Parser, ◌>>=◌, place, is_end, sign_of, word_of, after_sign, after_word, sign_is, word_is, operator_of, expect, expect_word, on_line, name_at, fresh_name, number_at, member_at, string_at}
 
 -- ---- parameters, and the names that they declare
 

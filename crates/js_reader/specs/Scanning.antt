@@ -1,6 +1,6 @@
 -- The tokens of a file, from its front.
-use Rattle.std.specs.Prelude.{ℕ, zero, suc, ◌+◌, ◌-◌, ◌*◌, Bool, true, false, ◌||◌, ◌&&◌, ◌==◌, nat_le, if◌then◌else◌, List, [], ◌∷◌, ◌++◌, length, take, drop, Option, Some, None}
-use Rattle.js_tree.specs.Tokens.{Bytes, is_digit, is_part, ends_line, is_blank, is_plain, is_hex, hex_value, Form, Run, Quoted, Sign, Unreadable, Tokens}
+use Rattle.std.specs.Prelude.{ℕ, zero, suc, ◌+◌, ◌-◌, ◌*◌, Bool, false, ◌||◌, ◌&&◌, ◌==◌, if◌then◌else◌, List, [], ◌∷◌, ◌++◌, length, take, drop, Option, Some, None}
+use Rattle.js_tree.specs.Tokens.{Bytes, is_part, ends_line, is_blank, is_plain, is_hex, hex_value, Form, Run, Quoted, Sign, Unreadable, Tokens}
 
 -- the longest front of such bytes, and what follows it
 abbrev pub front : (ℕ → Bool) → Bytes → Bytes

@@ -1,9 +1,9 @@
 -- What is taken from the front of tokens.
-use Rattle.std.specs.Prelude.{◌≡◌, ◌≤◌, ℕ, ◌^◌, Bool, true, false, not, ◌&&◌, nat_le, nat_lt, if◌then◌else◌, List, [], ◌∷◌, Option, Some, None, Result, Ok, Err, codes}
+use Rattle.std.specs.Prelude.{◌≡◌, ℕ, ◌^◌, Bool, true, false, not, ◌&&◌, nat_le, nat_lt, if◌then◌else◌, List, [], ◌∷◌, Option, Some, None, Result, Ok, Err, codes}
 use Rattle.std.specs.Str.{bytes_eq}
 use Rattle.std.specs.Str.Parse.{digits_value}
 use Rattle.std.specs.Fmt.{decimal}
-use Rattle.js_tree.specs.Tokens.{Bytes, Form, Run, Quoted, Sign, Unreadable, Token, Tokens}
+use Rattle.js_tree.specs.Tokens.{Bytes, Form, Run, Quoted, Sign, Tokens}
 use Rattle.js_tree.specs.Grammar.{Names, is_name, is_among, greatest}
 use Rattle.js_tree.specs.declared.words.JsMember.{JsMember}
 use Rattle.js_tree.specs.declared.words.JsMember.TheVariants as m

@@ -1,4 +1,4 @@
-use Rattle.std.proofs.Common.{◌≡◌, sym, ap, ◌∙◌, false}
+use Rattle.std.proofs.Common.{sym, ap, ◌∙◌, false}
 use Rattle.js_reader.specs.Scanning as spec
 use Rattle.js_reader.proofs.Fronts.{line_ends_here}
 use Rattle.js_reader.proofs.bytes.line_ends.Goals as goal
