@@ -1,5 +1,5 @@
 -- Where the last of selectors ends.
-use Rattle.std.proofs.Common.{◌≡◌, ℕ, zero, suc, List, [], ◌∷◌, length, ◌-◌, Option, Some, None, slice_get, arith}
+use Rattle.std.proofs.Common.{◌≡◌, ℕ, zero, suc, List, [], ◌∷◌, length, ◌-◌, Some, slice_get, arith}
 use Rattle.dart_grammar.specs.declared.trees.Selector.{Selector}
 use Rattle.dart_grammar.specs.Trees.{selector_span, selectors_end}
 

@@ -1,30 +1,28 @@
 -- What the calls of a desk keep, over plain values.
-use Rattle.std.proofs.Common.{◌≡◌, ◌≢◌, ℕ, zero, suc, ◌+◌, ◌-◌, ◌<◌, ◌≤◌, Bool, true, false, not, cond, ◌&&◌, ◌||◌, List, [], ◌∷◌, ◌++◌, length, refl, sym, ap, ◌∙◌, arith, subst, inl, inr, ⊎_elim, ◌⊎◌, get_or, set, Option, Some, None, replicate, add-one, length-append}
-use Rattle.std.proofs.lemmas.List.{append-nil, get_or_past, length-set, get_or_default}
+use Rattle.std.proofs.Common.{◌≡◌, ℕ, zero, suc, ◌+◌, ◌<◌, ◌≤◌, Bool, true, false, cond, ◌||◌, List, [], ◌∷◌, ◌++◌, length, refl, sym, ap, ◌∙◌, arith, subst, get_or, set, Option, Some, None, replicate, add-one}
+use Rattle.std.proofs.lemmas.List.{append-nil, get_or_past, length-set}
 use Rattle.index_links.specs.Lists.{first_of, nodes_in, without_node}
 use Rattle.std.specs.List.{AllByRecursion, list_any}
-use Rattle.std.proofs.lemmas.Bool.{eq-eqb, eqb-true, true≢false, cases_lt}
-use Rattle.std.proofs.lemmas.Bool.Decides.{eqb_tells}
+use Rattle.std.proofs.lemmas.Bool.{eq-eqb, true≢false}
 use Rattle.std.specs.Prelude.{nat_eq, is_some}
 use Rattle.world_state.specs.Facts.{InShape}
 use Rattle.world_state.specs.Worlds.{Facts, has_fact, absent_of, with_facts}
 use Rattle.type_masks.specs.declared.shape.Shape.{Shape}
 use Rattle.world_state.specs.declared.fact.Fact.{Fact}
-use Rattle.world_state.specs.declared.fact.Fact.TheVariants.{In, Live}
+use Rattle.world_state.specs.declared.fact.Fact.TheVariants.{Live}
 use Rattle.world_state.specs.declared.impact.Impact.{Impact}
-use Rattle.enqueuer_core.specs.declared.history.Entry.{Entry}
 use Rattle.enqueuer_core.specs.declared.desk.Desk.TheInside.{Inside}
 use Rattle.enqueuer_core.specs.Inside.{state_of, IsDesk}
 use Rattle.enqueuer_core.specs.Least.{IsInShape}
-use Rattle.enqueuer_core.specs.Core.{State, Event, Take, Join, Give_back, Reclaim, held_by, happens, given_back, returned, how_many, times, May, without, is_number, is_held, numbers_where, places, IsState, accepted, all_within, all_same, settled_by, settled_with, is_awake, is_woken, start, roots_of}
+use Rattle.enqueuer_core.specs.Core.{State, Take, Reclaim, held_by, happens, returned, times, without, is_number, is_held, numbers_where, IsState, accepted, all_within, all_same, settled_by, settled_with, is_woken, start, roots_of}
 use Rattle.enqueuer_core.specs.Worklists.{IsWorklist}
-use Rattle.enqueuer_core.proofs.Counts.{unit, how_many_set, how_many_append, any_counts, times_where, times_past, length_without, without_past}
-use Rattle.std.specs.Prelude.{MatchOption}
+use Rattle.enqueuer_core.specs.Hints.{AreHints}
+use Rattle.enqueuer_core.proofs.Counts.{unit, how_many_set, how_many_append, any_counts, times_where, times_past}
 use Rattle.enqueuer_core.proofs.Kept.{taken_kept, returned_kept, reclaimed_kept, accepted_kept, started, worker_of, live_of}
 
--- a desk from its state and its worklist
-pub desk_of : (e : Inside) (pending : List ℕ) → IsState (state_of e) → IsWorklist e.pending e.shape.members pending → IsDesk e
-desk_of e pending state list = record { state = state; nodes = list.nodes; lists = list.lists }
+-- a desk from its state, its worklist and its hints
+pub desk_of : (e : Inside) (pending : List ℕ) → IsState (state_of e) → IsWorklist e.pending e.shape.members pending → AreHints e.shape e.settled.items e.readers.items e.marks.items → IsDesk e
+desk_of e pending state list hints = record { state = state; nodes = list.nodes; lists = list.lists; hints = hints }
 
 pub worklist_of : (d : Inside) → IsDesk d → IsWorklist d.pending d.shape.members (nodes_in d.pending 0)
 worklist_of d is = record { nodes = is.nodes; lists = is.lists; pending = refl }
@@ -73,9 +71,6 @@ no_front (x ∷ xs) h = absurd (cc)
 pub no_front_some : (xs : List ℕ) → is_some (first_of xs) ≡ false → xs ≡ []
 no_front_some [] h = refl
 no_front_some (x ∷ xs) h = absurd (true≢false h)
-
-pub empty_front : (xs : List ℕ) → xs ≡ [] → first_of xs ≡ None
-empty_front xs h = ap first_of h
 
 -- what is pending is a member
 pub pending_member : (s : State) (member : ℕ) → IsState s → 0 < times member s.pending → member < s.shape.members
@@ -149,16 +144,6 @@ next_cleared p n xs h = ap (λ k. without p k xs) (add-one n) ∙ ap (λ b. cond
 
 pub next_kept : (p : ℕ → Bool) (n : ℕ) (xs : List (Option Impact)) → p n ≡ false → without p (n + 1) xs ≡ without p n xs
 next_kept p n xs h = ap (λ k. without p k xs) (add-one n) ∙ ap (λ b. cond b (set (without p n xs) n None) (without p n xs)) h
-
--- a member whose turn has not come has what it had settled on
-pub awake_at : (added : List Fact) (settled now : List (Option Impact)) (joined : ℕ) (whole : Bool) (n : ℕ) (o : Option Impact) → n < length settled → now ≡ without (is_woken added settled joined whole) n settled → o ≡ get_or now n o
-    → is_awake added o joined whole n ≡ is_woken added settled joined whole n
-awake_at added settled now joined whole n o within is read =
-    let p = is_woken added settled joined whole in
-    let long : length now ≡ length settled = ap length is ∙ length_without p n settled in
-    let here : o ≡ get_or settled n None =
-    read ∙ get_or_default now n o None (omega arith) ∙ ap (λ xs. get_or xs n None) is ∙ without_past p n n settled (omega arith) in
-    ap (λ x. is_awake added x joined whole n) here
 
 -- what a member settles on
 pub settled_is : (xs : List (Option Impact)) (j : Impact) (whole : Bool) (kept : Option Impact) → kept ≡ cond whole (Some j) None → settled_by xs j.member kept ≡ settled_with xs j whole

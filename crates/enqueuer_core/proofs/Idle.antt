@@ -1,11 +1,11 @@
 -- What lists of events give.
-use Rattle.std.proofs.Common.{◌≡◌, ◌≢◌, ℕ, zero, suc, ◌+◌, ◌<◌, ◌≤◌, Bool, true, false, not, cond, ◌&&◌, ◌||◌, List, [], ◌∷◌, ◌++◌, length, refl, sym, ap, ◌∙◌, arith, subst, inl, inr, ⊎_elim, ◌⊎◌, get_or, set, Option, Some, None, replicate}
-use Rattle.std.proofs.lemmas.Bool.{eq-eqb, eqb-true, true≢false, cases_lt}
+use Rattle.std.proofs.Common.{◌≡◌, ◌≢◌, ℕ, ◌<◌, Bool, true, false, cond, ◌&&◌, ◌||◌, List, [], ◌∷◌, ◌++◌, length, refl, sym, ap, ◌∙◌, arith, subst, ⊎_elim, get_or, set, Option, Some, None, replicate}
+use Rattle.std.proofs.lemmas.Bool.{true≢false}
 use Rattle.std.proofs.lemmas.Bool.Decides.{eqb_tells}
 use Rattle.std.proofs.lemmas.List.{get_or-set_same, get_or-set_other, length-set, length-replicate, get_or-replicate}
 use Rattle.type_masks.specs.Masks.{is_within}
 use Rattle.std.specs.Prelude.{nat_eq, is_some}
-use Rattle.std.specs.List.{list_any, list_all, AllByRecursion}
+use Rattle.std.specs.List.{AllByRecursion}
 use Rattle.world_state.specs.Facts.{InShape, is_among}
 use Rattle.world_state.specs.Worlds.{Facts, mask_at, has_fact, with_facts, absent_of, IsWorld, empty_of}
 use Rattle.type_masks.specs.declared.shape.Shape.{Shape}
@@ -13,12 +13,12 @@ use Rattle.world_state.specs.declared.fact.Fact.{Fact}
 use Rattle.world_state.specs.declared.fact.Fact.TheVariants.{In, Live}
 use Rattle.world_state.specs.declared.reads.SlotRead.{SlotRead}
 use Rattle.world_state.specs.declared.impact.Impact.{Impact}
-use Rattle.type_masks.proofs.Sets.{and_true, or_true, or_right, or_cases}
+use Rattle.type_masks.proofs.Sets.{or_true, or_right, or_cases}
 use Rattle.world_state.proofs.Absent.{with_absent, absent_in_shape}
 use Rattle.world_state.proofs.WorldFacts.{has_withs, world_withs, shape_withs, world_empty, none_in_empty, within_from}
 use Rattle.enqueuer_core.specs.declared.history.Entry.{Entry}
-use Rattle.enqueuer_core.specs.Least.{Meaning, Agrees, IsBelow, IsOfShape, IsInShape, IsLawful, Derives, root, given, IsClosed, IsLeast, IsOneOf}
-use Rattle.enqueuer_core.specs.Core.{State, Event, Take, Join, Give_back, Reclaim, is_number, is_held, held_by, all_within, all_same, accepted, returned, given_back, happens, how_many, times, May, MayAll, run, roots_of, start, IsLegalAt, replay, IsLegal, last_whole, places, IsSettled, IsState, IsIdle}
+use Rattle.enqueuer_core.specs.Least.{Meaning, Agrees, IsBelow, IsOfShape, IsLawful, Derives, root, given, IsLeast, IsOneOf}
+use Rattle.enqueuer_core.specs.Core.{State, Event, Take, Join, Give_back, Reclaim, is_number, held_by, all_within, all_same, accepted, returned, given_back, happens, how_many, times, May, MayAll, run, roots_of, start, IsLegalAt, replay, IsLegal, last_whole, IsState, IsIdle}
 use Rattle.enqueuer_core.specs.LawsOfCore.{IsEventOf, brings, NoneDropped, DerivedAlways, LeastWhenIdle, NeverDropped}
 use Rattle.enqueuer_core.proofs.LeastWorlds.{facts_below}
 use Rattle.enqueuer_core.proofs.Counts.{unit, all_default}

@@ -1,25 +1,24 @@
 -- Every event keeps what a state is.
-use Rattle.std.proofs.Common.{◌≡◌, ◌≢◌, ℕ, zero, suc, ◌+◌, ◌<◌, ◌≤◌, Bool, true, false, not, cond, ◌&&◌, ◌||◌, List, [], ◌∷◌, ◌++◌, length, refl, sym, ap, ◌∙◌, arith, subst, inl, inr, ⊎_elim, ◌⊎◌, get_or, set, Option, Some, None, replicate}
-use Rattle.std.proofs.lemmas.Bool.{eq-eqb, eqb-true, true≢false, cases_lt}
+use Rattle.std.proofs.Common.{◌≡◌, ◌≢◌, ℕ, ◌+◌, ◌<◌, ◌≤◌, Bool, true, false, not, cond, ◌&&◌, ◌||◌, List, [], ◌∷◌, ◌++◌, length, refl, sym, ap, ◌∙◌, arith, subst, inl, inr, ⊎_elim, ◌⊎◌, get_or, set, Option, Some, None, replicate}
+use Rattle.std.proofs.lemmas.Bool.{eq-eqb, true≢false, cases_lt}
 use Rattle.std.proofs.lemmas.Bool.Decides.{eqb_tells}
 use Rattle.std.proofs.lemmas.List.{get_or-set_same, get_or-set_other, length-set, get_or-replicate, get_or_past, length-replicate}
 use Rattle.std.specs.Prelude.{nat_eq, is_some}
-use Rattle.std.specs.List.{list_any, list_all, AllByRecursion}
-use Rattle.type_masks.specs.Masks.{Kinds, has, is_within, is_same}
-use Rattle.world_state.specs.Facts.{InShape, is_among, same_fact, is_of_slot}
-use Rattle.world_state.specs.Worlds.{Facts, no_kinds, mask_at, has_fact, with_facts, absent_of, IsWorld, empty_of}
+use Rattle.std.specs.List.{list_any, AllByRecursion}
+use Rattle.type_masks.specs.Masks.{is_same}
+use Rattle.world_state.specs.Facts.{InShape, is_among, is_of_slot}
+use Rattle.world_state.specs.Worlds.{Facts, mask_at, has_fact, with_facts, absent_of, IsWorld, empty_of}
 use Rattle.type_masks.specs.declared.shape.Shape.{Shape}
 use Rattle.world_state.specs.declared.fact.Fact.{Fact}
-use Rattle.world_state.specs.declared.fact.Fact.TheVariants.{In, Live}
+use Rattle.world_state.specs.declared.fact.Fact.TheVariants.{Live}
 use Rattle.world_state.specs.declared.reads.SlotRead.{SlotRead}
 use Rattle.world_state.specs.declared.impact.Impact.{Impact}
-use Rattle.type_masks.proofs.Sets.{and_true, or_true, or_right, or_cases}
+use Rattle.type_masks.proofs.Sets.{and_true, or_true, or_right}
 use Rattle.world_state.proofs.Absent.{with_absent, absent_in_shape, absent_none}
-use Rattle.world_state.proofs.WorldFacts.{within_has, has_withs, world_withs, shape_withs, same_set_from, same_fact_is, is_same_fact, world_empty, mask_withs, or_none_left, or_none_right, same_is}
+use Rattle.world_state.proofs.WorldFacts.{has_withs, world_withs, shape_withs, world_empty, mask_withs, or_none_left, or_none_right, same_is}
 use Rattle.enqueuer_core.specs.declared.history.Entry.{Entry}
 use Rattle.enqueuer_core.specs.Least.{Agrees, IsInShape}
 use Rattle.enqueuer_core.specs.Core.{State, Event, Take, Join, Give_back, Reclaim, numbers_where, without, is_number, is_held, held_by, all_within, all_same, is_raised, has_raised, is_woken, settled_with, accepted, returned, given_back, happens, how_many, times, May, roots_of, start, IsLegalAt, replay, IsLegal, last_whole, places, IsSettled, IsState}
-use Rattle.index_links.specs.Lists.{without_node}
 use Rattle.enqueuer_core.proofs.Counts.{unit, how_many_append, how_many_set, how_many_none, any_counts, none_counts, times_push, times_past, times_where, times_without_node, length_without, without_at, without_past}
 
 -- what is settled stays so where neither the world nor the history changes

@@ -1,21 +1,21 @@
 -- Laws of impacts and of the least world.
-use Rattle.std.proofs.Common.{◌≡◌, ◌≢◌, ℕ, zero, suc, ◌+◌, ◌<◌, Bool, true, false, not, cond, ◌&&◌, ◌||◌, List, [], ◌∷◌, ◌++◌, length, refl, sym, ap, ◌∙◌, arith, subst, inl, inr, ⊎_elim, ◌⊎◌, get_or, set}
+use Rattle.std.proofs.Common.{◌≡◌, ◌≢◌, ℕ, suc, ◌<◌, Bool, true, false, ◌||◌, List, [], ◌∷◌, length, refl, sym, ap, ◌∙◌, arith, subst, inl, inr, ⊎_elim, ◌⊎◌, get_or, set}
 use Rattle.std.proofs.lemmas.Bool.{eq-eqb, eqb-true, true≢false}
 use Rattle.std.proofs.lemmas.Bool.Decides.{eqb_tells}
 use Rattle.std.proofs.lemmas.List.{get_or-set_same, get_or-set_other, length-set}
 use Rattle.std.specs.Prelude.{nat_eq}
 use Rattle.std.specs.List.{list_any, list_all, AllByRecursion}
-use Rattle.type_masks.specs.Masks.{Kinds, has, is_within, is_same}
-use Rattle.world_state.specs.Facts.{InShape, is_among, same_fact}
-use Rattle.world_state.specs.Worlds.{Facts, no_kinds, mask_at, has_fact, with_facts, absent_of, IsWorld}
+use Rattle.type_masks.specs.Masks.{Kinds, has, is_within}
+use Rattle.world_state.specs.Facts.{InShape, is_among}
+use Rattle.world_state.specs.Worlds.{Facts, no_kinds, mask_at, has_fact, IsWorld}
 use Rattle.type_masks.specs.declared.shape.Shape.{Shape}
 use Rattle.world_state.specs.declared.fact.Fact.{Fact}
 use Rattle.world_state.specs.declared.fact.Fact.TheVariants.{In, Live}
 use Rattle.world_state.specs.declared.reads.SlotRead.{SlotRead}
 use Rattle.world_state.specs.declared.impact.Impact.{Impact}
 use Rattle.type_masks.proofs.Sets.{and_true, or_true, or_right, or_cases}
-use Rattle.world_state.proofs.WorldFacts.{within_has, has_withs, world_withs, shape_withs, same_set_from, same_fact_is}
-use Rattle.enqueuer_core.specs.Least.{Meaning, Agrees, IsBelow, IsOfShape, IsInShape, IsLawful, Derives, root, given, IsClosed, IsLeast, IsOneOf, OneLeast}
+use Rattle.world_state.proofs.WorldFacts.{within_has, same_set_from}
+use Rattle.enqueuer_core.specs.Least.{Meaning, Agrees, IsBelow, IsOfShape, IsLawful, Derives, root, given, IsClosed, IsOneOf, OneLeast}
 use Rattle.enqueuer_core.specs.Core.{all_within}
 
 -- what is derived lies in every closed world

@@ -4,4 +4,7 @@ pub mod Kept
 pub mod Idle
 pub mod Verdicts
 pub mod Worklists
+pub mod Enlisted
+pub mod Marks
+pub mod Quiet
 pub mod DeskLaws

@@ -1,7 +1,6 @@
 -- What a join of reads answers, read by read.
-use Rattle.std.proofs.Common.{◌≡◌, ℕ, ◌+◌, ◌<◌, Bool, true, false, cond, ◌&&◌, List, [], ◌∷◌, length, refl, sym, ap, ◌∙◌, subst, get_or, drop}
+use Rattle.std.proofs.Common.{◌≡◌, ℕ, ◌+◌, ◌<◌, Bool, true, false, ◌&&◌, List, ◌∷◌, length, refl, sym, ap, ◌∙◌, subst, get_or, drop}
 use Rattle.std.proofs.lemmas.List.{drop_more}
-use Rattle.std.proofs.lemmas.Bool.{true≢false}
 use Rattle.std.specs.List.{AllByRecursion}
 use Rattle.std.specs.Bool.{MatchBool}
 use Rattle.type_masks.specs.Masks.{Kinds, is_within, is_same}
@@ -9,7 +8,7 @@ use Rattle.world_state.specs.Worlds.{Facts, mask_at}
 use Rattle.world_state.specs.declared.reads.SlotRead.{SlotRead}
 use Rattle.enqueuer_core.specs.Core.{all_within, all_same}
 use Rattle.enqueuer_core.specs.Desks.{IsFirstOutside, IsVerdict}
-use Rattle.enqueuer_core.specs.declared.joined.Joined.TheVariants.{Whole, Part, Dropped}
+use Rattle.enqueuer_core.specs.declared.joined.Joined.TheVariants.{Dropped}
 
 -- what is known with these reads left
 pub record IsJudged (w : Facts) (all : List SlotRead) (same : Bool) (rest : List SlotRead) : Type 0 where

@@ -1,17 +1,17 @@
 -- The links of the worklist.
-use Rattle.std.proofs.Common.{◌≡◌, ℕ, zero, suc, ◌+◌, ◌<◌, ◌≤◌, Bool, true, false, cond, List, [], ◌∷◌, ◌++◌, length, refl, sym, ap, ◌∙◌, arith, subst, set, get_or, Option, Some, None, nat_eq, ◌||◌}
+use Rattle.std.proofs.Common.{◌≡◌, ℕ, zero, suc, ◌<◌, Bool, true, false, cond, List, [], ◌∷◌, ◌++◌, length, refl, sym, ap, ◌∙◌, arith, subst, get_or, Some, None, nat_eq, ◌||◌}
 use Rattle.std.proofs.lemmas.List.{length-set, get_or-set_same}
-use Rattle.std.proofs.lemmas.Bool.{true≢false, eq-eqb, eqb-true}
+use Rattle.std.proofs.lemmas.Bool.{eq-eqb, eqb-true}
 use Rattle.std.specs.List.{list_any, position_from}
-use Rattle.index_links.specs.Lists.{Lists, is_in, first_of, nodes_in, list_with, with_list, taken_out, without_node, empty_lists}
+use Rattle.index_links.specs.Lists.{Lists, is_in, nodes_in, list_with, with_list, taken_out, without_node, empty_lists}
 use Rattle.world_state.specs.Facts.{is_of_slot}
 use Rattle.world_state.specs.Reads.{is_read}
 use Rattle.world_state.specs.declared.fact.Fact.{Fact}
 use Rattle.world_state.specs.declared.fact.Fact.TheVariants.{In, Live}
 use Rattle.world_state.specs.declared.reads.SlotRead.{SlotRead}
-use Rattle.type_masks.proofs.Sets.{same_bool, or_cases, or_true, or_right}
+use Rattle.type_masks.proofs.Sets.{same_bool}
 use Rattle.enqueuer_core.specs.Core.{times, is_raised}
-use Rattle.enqueuer_core.specs.Worklists.{IsWorklist, raises_read}
+use Rattle.enqueuer_core.specs.Worklists.{IsWorklist}
 use Rattle.enqueuer_core.proofs.Counts.{in_none, in_some}
 
 -- where there is one list
@@ -63,8 +63,13 @@ emptied members w e = subst (λ (l : Lists). IsWorklist l members []) (sym e) (r
 pub same_list : (v w : Lists) (members : ℕ) (xs ys : List ℕ) → IsWorklist v members xs → w ≡ v → xs ≡ ys → IsWorklist w members ys
 same_list v w members xs ys is e h = subst (λ (l : Lists). IsWorklist l members ys) (sym e) (subst (IsWorklist v members) h is)
 
+-- whether the fact is of a slot that was read
+abbrev pub raises_read : List SlotRead → Fact → Bool
+raises_read rs (In slot kind) = is_read rs slot
+raises_read rs (Live n) = false
+
 -- whether a fact raises a slot that was read, asked of the facts or of the reads
-any_cases : {X : Type 0} (p q : X → Bool) (xs : List X) → list_any (λ x. p x || q x) xs ≡ (list_any p xs || list_any q xs)
+pub any_cases : {X : Type 0} (p q : X → Bool) (xs : List X) → list_any (λ x. p x || q x) xs ≡ (list_any p xs || list_any q xs)
 any_cases p q [] = refl
 any_cases p q (x ∷ xs) = ap (λ b. (p x || q x) || b) (any_cases p q xs) ∙ four (p x) (q x) (list_any p xs) (list_any q xs)
   where
@@ -85,7 +90,7 @@ raises_first r rs (In slot kind) = ap (λ b. b || is_read rs slot) (flip r.slot 
     flip a b = same_bool (nat_eq a b) (nat_eq b a) (λ h. eq-eqb b a (sym (eqb-true a b h))) (λ h. eq-eqb a b (sym (eqb-true b a h)))
 raises_first r rs (Live n) = refl
 
-any_alike : {X : Type 0} (p q : X → Bool) (xs : List X) → ((x : X) → p x ≡ q x) → list_any p xs ≡ list_any q xs
+pub any_alike : {X : Type 0} (p q : X → Bool) (xs : List X) → ((x : X) → p x ≡ q x) → list_any p xs ≡ list_any q xs
 any_alike p q [] each = refl
 any_alike p q (x ∷ xs) each = ap (λ b. b || list_any p xs) (each x) ∙ ap (λ b. q x || b) (any_alike p q xs each)
 

@@ -1,5 +1,5 @@
 -- How values are told apart.
-use Rattle.std.specs.Prelude.{◌≡◌, ℕ, Bool, List, refl, Option}
+use Rattle.std.specs.Prelude.{ℕ, Bool, List, refl, Option}
 use Rattle.std.specs.Coded.{Coded, code_by, coded×, coded_ℕ, coded_bool, coded_list, coded_option}
 use Rattle.type_masks.specs.Shapes.{coded_Shape}
 use Rattle.world_state.specs.Worlds.{Facts, coded_Facts}

@@ -1,17 +1,17 @@
 -- The core as a machine over events.
-use Rattle.std.specs.Prelude.{◌≡◌, ℕ, zero, suc, ◌+◌, ◌<◌, Bool, true, false, not, cond, ◌&&◌, ◌||◌, nat_eq, List, [], ◌∷◌, ◌++◌, length, slice_index_or, slice_set, if◌then◌else◌, replicate, Option, Some, None, is_some, ⊤}
+use Rattle.std.specs.Prelude.{◌≡◌, ℕ, zero, suc, ◌+◌, ◌<◌, Bool, true, false, not, ◌&&◌, ◌||◌, nat_eq, List, [], ◌∷◌, ◌++◌, length, slice_index_or, slice_set, if◌then◌else◌, replicate, Option, Some, None, is_some, ⊤}
 use Rattle.std.specs.List.{AllByRecursion, list_any, list_all}
-use Rattle.type_masks.specs.Masks.{Kinds, is_within, is_same}
+use Rattle.type_masks.specs.Masks.{is_within, is_same}
 use Rattle.index_links.specs.Lists.{without_node}
 use Rattle.world_state.specs.Facts.{is_among, InShape, is_of_slot}
 use Rattle.world_state.specs.Worlds.{Facts, mask_at, has_fact, with_facts, absent_of, IsWorld, empty_of}
 use Rattle.type_masks.specs.declared.shape.Shape.{Shape}
 use Rattle.world_state.specs.declared.fact.Fact.{Fact}
-use Rattle.world_state.specs.declared.fact.Fact.TheVariants.{In, Live}
+use Rattle.world_state.specs.declared.fact.Fact.TheVariants.{Live}
 use Rattle.world_state.specs.declared.reads.SlotRead.{SlotRead}
 use Rattle.world_state.specs.declared.impact.Impact.{Impact}
 use Rattle.enqueuer_core.specs.declared.history.Entry.{Entry}
-use Rattle.enqueuer_core.specs.Least.{Meaning, IsInShape, IsOneOf, Agrees, IsLawful, Derives, IsLeast}
+use Rattle.enqueuer_core.specs.Least.{IsInShape, Agrees}
 
 -- a state of the core
 pub record State : Type 0 where

@@ -1,11 +1,10 @@
 -- What the calls of a desk answer.
-use Rattle.std.specs.Prelude.{◌≡◌, ℕ, ◌<◌, Bool, true, false, List, [], ◌∷◌}
+use Rattle.std.specs.Prelude.{◌≡◌, ℕ, ◌<◌, true, false, List, [], ◌∷◌}
 use Rattle.std.specs.List.{AllByRecursion}
 use Rattle.std.specs.Bool.{MatchBool}
 use Rattle.type_masks.specs.Masks.{Kinds, is_within}
 use Rattle.world_state.specs.Worlds.{Facts, mask_at}
 use Rattle.world_state.specs.declared.reads.SlotRead.{SlotRead}
-use Rattle.world_state.specs.declared.impact.Impact.{Impact}
 use Rattle.enqueuer_core.specs.declared.history.Entry.{Entry}
 use Rattle.enqueuer_core.specs.declared.job.Job.{Job}
 use Rattle.enqueuer_core.specs.declared.joined.Joined.{Joined}

@@ -1,17 +1,9 @@
 -- What holds of every list of events of the core, whatever the schedule is.
-use Rattle.std.specs.Prelude.{◌≡◌, ℕ, zero, suc, ◌+◌, ◌<◌, Bool, true, false, not, cond, ◌&&◌, ◌||◌, nat_eq, List, [], ◌∷◌, ◌++◌, length, slice_index_or, slice_set, if◌then◌else◌, replicate, Option, Some, None, is_some, ⊤}
-use Rattle.std.specs.List.{AllByRecursion, list_any, list_all}
-use Rattle.type_masks.specs.Masks.{Kinds, is_within, is_same}
-use Rattle.index_links.specs.Lists.{without_node}
-use Rattle.world_state.specs.Facts.{is_among, InShape, is_of_slot}
-use Rattle.world_state.specs.Worlds.{Facts, mask_at, has_fact, with_facts, absent_of, IsWorld, empty_of}
-use Rattle.type_masks.specs.declared.shape.Shape.{Shape}
+use Rattle.std.specs.Prelude.{◌≡◌, ℕ, true, List, [], ◌∷◌, slice_index_or, slice_set, replicate, ⊤}
+use Rattle.std.specs.List.{AllByRecursion}
+use Rattle.world_state.specs.Worlds.{Facts, has_fact}
 use Rattle.world_state.specs.declared.fact.Fact.{Fact}
-use Rattle.world_state.specs.declared.fact.Fact.TheVariants.{In, Live}
-use Rattle.world_state.specs.declared.reads.SlotRead.{SlotRead}
-use Rattle.world_state.specs.declared.impact.Impact.{Impact}
-use Rattle.enqueuer_core.specs.declared.history.Entry.{Entry}
-use Rattle.enqueuer_core.specs.Least.{Meaning, IsInShape, IsOneOf, Agrees, IsLawful, Derives, IsLeast}
+use Rattle.enqueuer_core.specs.Least.{Meaning, IsOneOf, IsLawful, Derives, IsLeast}
 use Rattle.enqueuer_core.specs.Core.{State, Event, Take, Join, Give_back, Reclaim, happens, run, MayAll, start, roots_of, all_within, IsIdle}
 
 -- each joined impact is that of some world of the shape

@@ -1,12 +1,11 @@
 -- What impacts mean, and the least set of facts.
-use Rattle.std.specs.Prelude.{◌≡◌, ℕ, ◌<◌, Bool, true, List, [], ◌∷◌, ⊤}
+use Rattle.std.specs.Prelude.{◌≡◌, ℕ, ◌<◌, true, List}
 use Rattle.std.specs.List.{AllByRecursion}
-use Rattle.type_masks.specs.Masks.{Kinds}
 use Rattle.world_state.specs.Facts.{is_among, InShape}
 use Rattle.world_state.specs.Worlds.{Facts, mask_at, has_fact, IsWorld}
 use Rattle.type_masks.specs.declared.shape.Shape.{Shape}
 use Rattle.world_state.specs.declared.fact.Fact.{Fact}
-use Rattle.world_state.specs.declared.fact.Fact.TheVariants.{In, Live}
+use Rattle.world_state.specs.declared.fact.Fact.TheVariants.{Live}
 use Rattle.world_state.specs.declared.reads.SlotRead.{SlotRead}
 use Rattle.world_state.specs.declared.impact.Impact.{Impact}
 

@@ -3,6 +3,7 @@ pub mod Core
 pub mod LawsOfCore
 pub mod Desks
 pub mod Worklists
+pub mod Hints
 pub mod Inside
 pub mod Codes
 pub mod Pair

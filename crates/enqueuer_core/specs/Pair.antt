@@ -1,9 +1,7 @@
 -- An example: two members, of which 0 reads slot 0 and gives nothing, and 1 reads nothing and gives kind 0 in slot 0.
-use Rattle.std.specs.Prelude.{ℕ, nat_eq, List, [], ◌∷◌, if◌then◌else◌}
+use Rattle.std.specs.Prelude.{ℕ, nat_eq, [], ◌∷◌, if◌then◌else◌}
 use Rattle.world_state.specs.Worlds.{Facts, mask_at}
-use Rattle.world_state.specs.declared.fact.Fact.{Fact}
 use Rattle.world_state.specs.declared.fact.Fact.TheVariants.{In, Live}
-use Rattle.world_state.specs.declared.reads.SlotRead.{SlotRead}
 use Rattle.world_state.specs.declared.impact.Impact.{Impact}
 use Rattle.enqueuer_core.specs.Least.{Meaning}
 

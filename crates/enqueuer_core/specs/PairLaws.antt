@@ -1,16 +1,14 @@
 -- The pair keeps the laws.
-use Rattle.std.proofs.Common.{◌≡◌, ℕ, ◌<◌, Bool, true, false, cond, List, [], ◌∷◌, refl, ap, arith}
+use Rattle.std.proofs.Common.{◌≡◌, ◌<◌, Bool, true, false, cond, List, [], ◌∷◌, refl, ap, arith}
 use Rattle.std.specs.Prelude.{nat_eq}
 use Rattle.std.specs.List.{AllByRecursion}
 use Rattle.type_masks.specs.Masks.{Kinds}
 use Rattle.world_state.specs.Facts.{InShape}
 use Rattle.world_state.specs.Worlds.{Facts, mask_at}
-use Rattle.world_state.specs.declared.fact.Fact.{Fact}
-use Rattle.world_state.specs.declared.fact.Fact.TheVariants.{In, Live}
+use Rattle.world_state.specs.declared.fact.Fact.TheVariants.{In}
 use Rattle.world_state.specs.declared.reads.SlotRead.{SlotRead}
-use Rattle.world_state.specs.declared.impact.Impact.{Impact}
-use Rattle.enqueuer_core.specs.Least.{Meaning, Agrees, IsLawful}
-use Rattle.enqueuer_core.specs.Pair.{pair, pair_impact}
+use Rattle.enqueuer_core.specs.Least.{Agrees, IsLawful}
+use Rattle.enqueuer_core.specs.Pair.{pair}
 
 abbrev reads_of : Facts → Bool → List SlotRead
 reads_of w b = cond b (record { slot = 0; mask = mask_at w 0 } ∷ []) []

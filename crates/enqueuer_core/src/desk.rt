@@ -1,5 +1,5 @@
 //! The desk: the state of the core that workers share.
-ghost use Rattle.std.specs.Prelude.{◌≡◌, ◌<◌, ◌∷◌, [], ◌++◌, ℕ, true, IfOk, OnOk, OnErr, IfErr, IfSome, IfNone, IsTrue, ◌↔◌, length, Some, None, List, if◌then◌else◌, is_some, replicate};
+ghost use Rattle.std.specs.Prelude.{◌≡◌, ◌<◌, ◌∷◌, [], ◌++◌, ℕ, true, false, IfOk, OnOk, OnErr, IfErr, IfSome, IfNone, IsTrue, ◌↔◌, length, Some, None, List, if◌then◌else◌, is_some, replicate};
 ghost use Rattle.std.specs.List.{AllByRecursion, list_any};
 ghost use Rattle.world_state.specs.Worlds.{absent_of};
 ghost use Rattle.enqueuer_core.specs.Least.{IsInShape, IsLeast};
@@ -10,7 +10,9 @@ use crate::history::{Entry, History, record};
 use crate::impacts::Impacts;
 use crate::job::Job;
 use crate::joined::{JoinRefused, Joined};
-use crate::worklist::{live_members, put_held, wake};
+use crate::readers::Readers;
+use crate::waking::{enlist, wake};
+use crate::worklist::{live_members, put_held};
 use index_links::Links;
 use std::alloc::{AllocError, Global};
 use std::marker::Model;
@@ -26,6 +28,10 @@ pub struct Desk {
     world: World,
     pending: Links,
     settled: Vec<Option<Impact>>,
+    // Of each slot. The value has no part of them, nor of the marks.
+    readers: Vec<Readers>,
+    // Of each member, all unset between calls, so that waking takes no memory.
+    marks: Vec<bool>,
     held: Vec<Option<u32>>,
     history: History,
 }
@@ -62,6 +68,8 @@ impl Desk {
             world,
             pending,
             settled: no_impacts(alloc, shape.members)?,
+            readers: no_readers(alloc, shape.slots)?,
+            marks: no_marks(alloc, shape.members)?,
             held: no_members(alloc, workers)?,
             history: History {
                 entries: Vec::new(alloc),
@@ -194,6 +202,8 @@ impl Desk {
             world,
             pending: _,
             settled: _,
+            readers: _,
+            marks: _,
             held: _,
             history: _,
         } = self;
@@ -243,6 +253,10 @@ impl Desk {
             Ok(()) => (),
             Err(_) => return Err(impact),
         }
+        match enlist(&mut self.readers, &impact, whole) {
+            Ok(()) => (),
+            Err(_) => return Err(impact),
+        }
         let added = match self.world.add_facts(&impact.facts) {
             Ok(added) => added,
             Err(_) => return Err(impact),
@@ -252,6 +266,8 @@ impl Desk {
         wake(
             &mut self.pending,
             &mut self.settled,
+            &mut self.readers,
+            &mut self.marks,
             added.as_slice(),
             self.shape.members,
             member,
@@ -341,6 +357,26 @@ fn no_impacts(alloc: Global, members: u32) -> Result<Vec<Option<Impact>>, AllocE
     let mut none = Vec::new(alloc);
     for _ in 0..members {
         none.push(None)?;
+    }
+    Ok(none)
+}
+
+fn no_readers(alloc: Global, slots: u32) -> Result<Vec<Readers>, AllocError>
+    ensures { IfOk result (λ v. v.items ≡ replicate slots []) }
+{
+    let mut none = Vec::new(alloc);
+    for _ in 0..slots {
+        none.push(Readers::new(alloc))?;
+    }
+    Ok(none)
+}
+
+fn no_marks(alloc: Global, members: u32) -> Result<Vec<bool>, AllocError>
+    ensures { IfOk result (λ v. v.items ≡ replicate members false) }
+{
+    let mut none = Vec::new(alloc);
+    for _ in 0..members {
+        none.push(false)?;
     }
     Ok(none)
 }

@@ -7,6 +7,8 @@ mod impacts;
 mod job;
 mod joined;
 mod laws;
+mod readers;
+mod waking;
 mod worklist;
 
 pub use desk::Desk;

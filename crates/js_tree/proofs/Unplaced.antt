@@ -88,9 +88,6 @@ type_of_same a = rolled_expr (JsExpr-F.TypeOf a) (e.rolls-TypeOf a)
 pub function_same : (f : JsFunction) → expr_without_places (e.Function f) ≡ e.Function (function_without_places f)
 function_same f = rolled_expr (JsExpr-F.Function f) (e.rolls-Function f)
 
-pub new_map_same : expr_without_places e.NewMap ≡ e.NewMap
-new_map_same = rolled_expr JsExpr-F.NewMap e.rolls-NewMap
-
 pub array_same : (xs : List JsExpr) → expr_without_places (e.Array xs) ≡ e.Array (map expr_without_places xs)
 array_same xs = rolled_expr (JsExpr-F.Array xs) (e.rolls-Array xs)
 
@@ -98,30 +95,6 @@ pub object_same : (xs : List JsEntry) → expr_without_places (e.Object xs) ≡ 
 object_same xs = rolled_expr (JsExpr-F.Object xs) (e.rolls-Object xs)
 
 -- ---- JsHead
-
-pub name_same : (x : Bytes) → head_without_places (h.Name x) ≡ h.Name x
-name_same x = rolled_head (JsHead-F.Name x) (h.rolls-Name x)
-
-pub digits_same : (n : ℕ) → head_without_places (h.Digits n) ≡ h.Digits n
-digits_same n = rolled_head (JsHead-F.Digits n) (h.rolls-Digits n)
-
-pub negative_same : (n : ℕ) → head_without_places (h.Negative n) ≡ h.Negative n
-negative_same n = rolled_head (JsHead-F.Negative n) (h.rolls-Negative n)
-
-pub str_same : (us : List ℕ) → head_without_places (h.Str us) ≡ h.Str us
-str_same us = rolled_head (JsHead-F.Str us) (h.rolls-Str us)
-
-pub null_same : head_without_places h.Null ≡ h.Null
-null_same = rolled_head JsHead-F.Null h.rolls-Null
-
-pub undefined_same : head_without_places h.Undefined ≡ h.Undefined
-undefined_same = rolled_head JsHead-F.Undefined h.rolls-Undefined
-
-pub true_same : head_without_places h.True ≡ h.True
-true_same = rolled_head JsHead-F.True h.rolls-True
-
-pub false_same : head_without_places h.False ≡ h.False
-false_same = rolled_head JsHead-F.False h.rolls-False
 
 pub string_of_same : (args : List JsExpr) → head_without_places (h.StringOf args) ≡ h.StringOf (map expr_without_places args)
 string_of_same args = rolled_head (JsHead-F.StringOf args) (h.rolls-StringOf args)
@@ -139,9 +112,6 @@ index_same a = rolled_selector (JsSelector-F.Index a) (l.rolls-Index a)
 
 pub call_same : (args : List JsExpr) → selector_without_places (l.Call args) ≡ l.Call (map expr_without_places args)
 call_same args = rolled_selector (JsSelector-F.Call args) (l.rolls-Call args)
-
-pub member_same : (m : JsMember) → selector_without_places (l.Member m) ≡ l.Member m
-member_same m = rolled_selector (JsSelector-F.Member m) (l.rolls-Member m)
 
 pub method_same : (m : JsMember) (args : List JsExpr) → selector_without_places (l.Method m args) ≡ l.Method m (map expr_without_places args)
 method_same m args = rolled_selector (JsSelector-F.Method m args) (l.rolls-Method m args)

@@ -1,4 +1,4 @@
-use Rattle.std.proofs.Common.{◌≡◌, ◌<◌, ℕ, length, get_or, None, arith, sym, ◌∙◌}
+use Rattle.std.proofs.Common.{length, arith}
 use Rattle.enqueuer_core.proofs.DeskLaws.{all_none}
 use Rattle.enqueuer_core.proofs.desk.release.Goals as goal
 

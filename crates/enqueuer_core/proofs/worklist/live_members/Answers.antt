@@ -1,4 +1,4 @@
-use Rattle.std.proofs.Common.{◌≡◌, ◌<◌, ℕ, ◌+◌, ◌++◌, ◌∷◌, [], List, Bool, true, false, cond, length, ap, ◌∙◌, sym, subst, refl, arith, Option, Some, None, set, append_assoc, get_or}
+use Rattle.std.proofs.Common.{ℕ, ap, ◌∙◌, sym, arith}
 use Rattle.world_state.specs.Worlds.{has_fact}
 use Rattle.world_state.specs.declared.fact.Fact.TheVariants.{Live}
 use Rattle.enqueuer_core.specs.Core.{numbers_where, times}

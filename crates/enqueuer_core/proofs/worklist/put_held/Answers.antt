@@ -1,4 +1,4 @@
-use Rattle.std.proofs.Common.{◌≡◌, ◌<◌, ℕ, ◌+◌, ◌++◌, ◌∷◌, [], List, Bool, true, false, cond, length, ap, ◌∙◌, sym, subst, refl, arith, Option, Some, None, set, append_assoc, get_or}
+use Rattle.std.proofs.Common.{◌++◌, ◌∷◌, [], ap, ◌∙◌, sym, refl, arith, append_assoc}
 use Rattle.index_links.specs.Lists.{nodes_in}
 use Rattle.enqueuer_core.specs.Core.{numbers_where, times, is_held}
 use Rattle.enqueuer_core.proofs.Worklists.{free_of, pushed, same_list}

@@ -1,5 +1,4 @@
-use Rattle.std.proofs.Common.{◌≡◌, ◌<◌, ℕ, ◌+◌, ◌++◌, ◌∷◌, [], List, Bool, true, false, cond, length, ap, ◌∙◌, sym, subst, refl, arith, Option, Some, None, IsSome, set, append_assoc, get_or}
-use Rattle.index_links.specs.Lists.{nodes_in}
+use Rattle.std.proofs.Common.{◌<◌, ap, ◌∙◌, sym, subst, refl, arith}
 use Rattle.enqueuer_core.specs.Core.{State, times}
 use Rattle.enqueuer_core.proofs.Worklists.{unlisted, listed}
 use Rattle.enqueuer_core.proofs.desk.Desk.claim.Goals as goal

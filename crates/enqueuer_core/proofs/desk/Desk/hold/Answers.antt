@@ -1,6 +1,6 @@
-use Rattle.std.proofs.Common.{◌≡◌, ◌<◌, ℕ, ◌+◌, ◌++◌, ◌∷◌, [], List, Bool, true, false, cond, length, ap, ◌∙◌, sym, subst, refl, arith, Option, Some, None, IsSome, set, append_assoc, get_or}
+use Rattle.std.proofs.Common.{◌≡◌, ◌<◌, ℕ, length, ap, ◌∙◌, sym, subst, refl, arith, Option, Some, None, IsSome}
 use Rattle.type_masks.specs.declared.shape.Shape.{Shape}
-use Rattle.index_links.specs.Lists.{Lists, nodes_in, list_with, without_node}
+use Rattle.index_links.specs.Lists.{nodes_in, without_node}
 use Rattle.world_state.specs.Worlds.{Facts}
 use Rattle.enqueuer_core.specs.Core.{State, Take, held_by, happens, times}
 use Rattle.enqueuer_core.specs.Inside.{state_of}
@@ -34,7 +34,7 @@ invariant_of-self c =
     desk_of _ (without_node c.args.member (nodes_in c.self.inside.pending 0))
     (taken_state c.self.inside _ c.args.worker c.args.member c.self.invariant within idle there
     (held_set_event (state_of c.self.inside) c.args.worker c.args.member (nodes_in c.remove.new.self 0) list.pending))
-    list
+    list c.self.invariant.hints
 
 pub returns-clause-ok : goal.returns-clause-ok
 returns-clause-ok c =

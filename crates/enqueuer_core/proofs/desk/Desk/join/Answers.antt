@@ -1,9 +1,8 @@
-use Rattle.std.proofs.Common.{◌≡◌, ◌<◌, ℕ, ◌+◌, ◌++◌, ◌∷◌, [], List, Bool, true, false, cond, length, ap, ◌∙◌, sym, subst, refl, arith, Option, Some, None, set, get_or}
+use Rattle.std.proofs.Common.{◌≡◌, Bool, cond, ap, ◌∙◌, sym, subst}
 use Rattle.world_state.specs.Worlds.{absent_of}
-use Rattle.enqueuer_core.specs.Core.{State, held_by, accepted, returned, all_same}
+use Rattle.enqueuer_core.specs.Core.{State, accepted, returned, all_same}
 use Rattle.enqueuer_core.specs.Desks.{IsVerdict}
 use Rattle.enqueuer_core.specs.declared.joined.Joined.TheVariants.{Whole, Part}
-use Rattle.enqueuer_core.specs.Inside.{state_of}
 use Rattle.enqueuer_core.proofs.desk.Desk.join.Goals as goal
 use Rattle.enqueuer_core.proofs.desk.Desk.join.Goals.{in-Whole, in-Part}
 

@@ -1,8 +1,8 @@
-use Rattle.std.proofs.Common.{◌≡◌, ◌<◌, ℕ, ◌+◌, ◌++◌, ◌∷◌, [], List, Bool, true, false, cond, length, ap, ◌∙◌, sym, subst, refl, arith, Option, Some, None, set, append_assoc, get_or}
+use Rattle.std.proofs.Common.{◌≡◌, ◌++◌, ◌∷◌, [], ap, ◌∙◌, arith, Some}
 use Rattle.index_links.specs.Lists.{nodes_in}
 use Rattle.enqueuer_core.specs.Core.{State, held_by, returned}
 use Rattle.enqueuer_core.specs.Inside.{state_of}
-use Rattle.enqueuer_core.proofs.Kept.{live_of, worker_of}
+use Rattle.enqueuer_core.proofs.Kept.{worker_of}
 use Rattle.enqueuer_core.proofs.Worklists.{free_of, pushed}
 use Rattle.enqueuer_core.proofs.DeskLaws.{desk_of, worklist_of, returned_state, held_free, held_member, returned_event}
 use Rattle.enqueuer_core.proofs.desk.Desk.put_back.Goals as goal
@@ -33,7 +33,7 @@ invariant_of-self c =
     let list = pushed c.self.inside.pending c.push_back.new.self c.self.inside.shape.members c.args.member (nodes_in c.self.inside.pending 0) (worklist_of c.self.inside c.self.invariant) c.push_back.ensures in
     desk_of _ (nodes_in c.self.inside.pending 0 ++ c.args.member ∷ [])
     (returned_state c.self.inside _ c.args.worker c.args.member c.self.invariant holds (returned_event (state_of c.self.inside) c.args.worker c.args.member (nodes_in c.push_back.new.self 0) list.pending))
-    list
+    list c.self.invariant.hints
 
 pub returns : goal.returns
 returns c =

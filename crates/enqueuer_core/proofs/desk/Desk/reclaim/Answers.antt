@@ -1,7 +1,6 @@
-use Rattle.std.proofs.Common.{◌≡◌, ◌<◌, ℕ, ◌+◌, ◌++◌, ◌∷◌, [], List, Bool, true, false, cond, length, ap, ◌∙◌, sym, subst, refl, arith, Option, Some, None, IsSome, set, append_assoc, get_or}
-use Rattle.std.proofs.Common.{replicate}
+use Rattle.std.proofs.Common.{◌++◌, ap, ◌∙◌, sym}
 use Rattle.index_links.specs.Lists.{nodes_in}
-use Rattle.enqueuer_core.specs.Core.{State, Reclaim, happens, numbers_where, is_held, times}
+use Rattle.enqueuer_core.specs.Core.{State, Reclaim, happens, numbers_where, is_held}
 use Rattle.enqueuer_core.specs.Inside.{state_of}
 use Rattle.enqueuer_core.proofs.DeskLaws.{desk_of, worklist_of, any_held_free, reclaimed_state, reclaimed_event}
 use Rattle.enqueuer_core.proofs.desk.Desk.reclaim.Goals as goal
@@ -19,7 +18,7 @@ invariant_of-self c =
     (reclaimed_state c.self.inside _ c.self.invariant
     (reclaimed_event s (nodes_in c.put_held.new.pending 0) c.release.new.held.items
     (c.put_held.ensures.pending ∙ ap (λ xs. s.pending ++ numbers_where (is_held xs) s.shape.members) c.as_slice.ensures.value) c.release.ensures))
-    c.put_held.ensures
+    c.put_held.ensures c.self.invariant.hints
 
 pub returns : goal.returns
 returns c =

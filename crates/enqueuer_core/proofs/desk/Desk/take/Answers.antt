@@ -1,4 +1,4 @@
-use Rattle.std.proofs.Common.{◌≡◌, ◌<◌, ℕ, ◌+◌, ◌++◌, ◌∷◌, [], List, Bool, true, false, cond, length, ap, ◌∙◌, sym, subst, refl, arith, Option, Some, None, IsSome, set, append_assoc, get_or}
+use Rattle.std.proofs.Common.{◌<◌, ap, ◌∙◌, sym, subst, refl, arith}
 use Rattle.index_links.specs.Lists.{nodes_in}
 use Rattle.enqueuer_core.specs.Core.{State, times}
 use Rattle.enqueuer_core.proofs.DeskLaws.{front_of, no_front}

@@ -1,0 +1,13 @@
+pub mod Cursor
+pub mod Types
+pub mod Inner
+pub mod Lists
+pub mod Parameters
+pub mod Blocks
+pub mod Texts
+pub mod Chains
+pub mod Operators
+pub mod Statements
+pub mod Knot
+pub mod Nests
+pub mod ParsingLaws

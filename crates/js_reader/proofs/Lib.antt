@@ -1,0 +1,14 @@
+pub mod Fronts
+pub mod Turns
+pub mod Scanned
+pub mod Digits
+pub mod Lexed
+pub mod Named
+pub mod Fronted
+pub mod Alike
+pub mod Aimed
+pub mod Sound
+pub mod Firsts
+pub mod Steps
+pub mod Complete
+pub mod Exact
