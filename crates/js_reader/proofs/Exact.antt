@@ -1,5 +1,5 @@
 -- What the reader answers is exact.
-use Rattle.std.proofs.Common.{◌≡◌, ℕ, ◌+◌, ◌≤◌, Bool, List, [], length, Result, Ok, Err, refl, sym, ap, ◌∙◌, subst, arith}
+use Rattle.std.proofs.Common.{◌≡◌, ℕ, ◌+◌, ◌-◌, ◌≤◌, Bool, List, [], length, Result, Ok, Err, refl, sym, ap, ◌∙◌, subst, arith}
 use Rattle.js_tree.specs.declared.tree.JsItem.{JsItem}
 use Rattle.js_tree.specs.declared.tree.JsFile.{JsFile}
 use Rattle.js_tree.specs.Tokens.{Bytes, Tokens, AreTokens, end, blank, token'}
@@ -9,29 +9,27 @@ use Rattle.js_reader.specs.declared.fault.JsFault.{JsFault}
 use Rattle.js_reader.specs.declared.fault.JsFault.TheVariants.{NotInProfile, Memory}
 use Rattle.js_reader.specs.Scanning.{tokens_of}
 use Rattle.js_reader.specs.Taking.{Fails}
-use Rattle.js_reader.specs.Parsing.{file_at, expr_at, stmt_at}
-use Rattle.js_reader.specs.Faults.{HasNoTree, IsFaultOf, OneTree}
+use Rattle.js_reader.specs.Parsing.{file_at}
+use Rattle.js_reader.specs.Faults.{HasNoTree, IsFaultAt, IsFaultOf, OneTree}
 use Rattle.js_reader.proofs.Lexed.{are_tokens, only_tokens, token_shorter}
-use Rattle.js_reader.proofs.Sound.{items_sound, expr_at_sound, stmt_at_sound}
 use Rattle.js_reader.proofs.Complete.{items_complete}
+use Rattle.js_reader.proofs.Placed.{items_derived, from_less, tokens_rise, fault_at}
 
 -- the answer for these bytes
 abbrev pub answer : Bytes → Result (List JsItem) ℕ
 answer bytes = file_at (length bytes) (length bytes + 1) (tokens_of (length bytes) bytes)
-
--- what is answered is spelled
-pub spelled : (bytes : Bytes) (xs : List JsItem) → answer bytes ≡ Ok xs → IsSpelled bytes (record { items = xs })
-unfolding file_at
-spelled bytes xs h =
-    let n = length bytes + 1 in
-    let d = items_sound (length bytes) n (expr_at (length bytes) n) (stmt_at (length bytes) n) (λ ts r k. expr_at_sound (length bytes) n ts r k) (λ ts r k. stmt_at_sound (length bytes) n ts r k) n [] [] (tokens_of (length bytes) bytes) xs h in
-    record { tokens = tokens_of (length bytes) bytes; scanned = are_tokens (length bytes) bytes; derived = subst (λ (ys : List JsItem). AreItems [] (tokens_of (length bytes) bytes) ys) d.1 d.2 }
 
 -- a token takes a byte at least
 pub no_more_tokens : {size : ℕ} {line : Bool} {bs : Bytes} {ts : Tokens} → AreTokens size line bs ts → length ts ≤ length bs
 no_more_tokens end = omega arith
 no_more_tokens (blank e d) = omega (arith, no_more_tokens d)
 no_more_tokens (token' i d) = omega (arith, no_more_tokens d, token_shorter i)
+
+-- what is answered is spelled
+pub spelled : (bytes : Bytes) (xs : List JsItem) → answer bytes ≡ Ok xs → IsSpelled bytes (record { items = xs })
+spelled bytes xs h =
+    let d = are_tokens (length bytes) bytes in
+    record { tokens = tokens_of (length bytes) bytes; scanned = d; derived = items_derived (length bytes) (length bytes + 1) (tokens_of (length bytes) bytes) xs (omega (arith, no_more_tokens d)) h }
 
 -- what is spelled is answered
 pub answered : (bytes : Bytes) (file : JsFile) → IsSpelled bytes file → answer bytes ≡ Ok file.items
@@ -45,8 +43,14 @@ answered bytes file d =
 pub no_tree : (bytes : Bytes) (at : ℕ) → answer bytes ≡ Err at → HasNoTree bytes
 no_tree bytes at h file d = let k = answered bytes file d in cc
 
+-- the tokens leave all files where the answer says
+placed : (bytes : Bytes) (at : ℕ) → answer bytes ≡ Err at → IsFaultAt (length bytes) (tokens_of (length bytes) bytes) at
+placed bytes at h =
+    let d = are_tokens (length bytes) bytes in
+    fault_at (length bytes) (length bytes + 1) (tokens_of (length bytes) bytes) at (from_less (length bytes) 0 (length bytes - length bytes) (tokens_of (length bytes) bytes) (omega arith) (tokens_rise d (omega arith))) (omega (arith, no_more_tokens d)) h
+
 pub fault_is : (bytes : Bytes) (fault : JsFault) → Fails fault (answer bytes) → IsFaultOf bytes fault
-fault_is bytes (NotInProfile at) h = no_tree bytes at h
+fault_is bytes (NotInProfile at) h = (no_tree bytes at h, λ ts d. subst (λ (us : Tokens). IsFaultAt (length bytes) us at) (sym (only_tokens (length bytes) bytes ts d)) (placed bytes at h))
 fault_is bytes Memory h = tt
 
 pub one : OneTree

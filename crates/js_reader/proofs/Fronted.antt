@@ -11,7 +11,7 @@ use Rattle.js_tree.specs.declared.words.JsOperator.{JsOperator}
 use Rattle.js_tree.specs.declared.words.JsMember.TheVariants as mm
 use Rattle.js_tree.specs.declared.words.JsOperator.TheVariants as oo
 use Rattle.js_tree.specs.Words.{member_text, operator_text}
-use Rattle.js_reader.specs.Taking.{◌>>=◌, place, on_new_line, sign_by, word_by, string_by, sign_of, word_of, is_some_text, after_sign, after_word, sign_is, word_is, number_of, member_of, operator_of, expect, expect_word, on_line, name_at, fresh_name, found_by, number_at, member_at, string_at}
+use Rattle.js_reader.specs.Taking.{◌>>=◌, place, sign_by, word_by, string_by, sign_of, word_of, is_some_text, after_sign, after_word, sign_is, word_is, number_of, member_of, operator_of, expect, expect_word, name_at, fresh_name, found_by, number_at, member_at, string_at}
 use Rattle.js_reader.proofs.Digits.{bytes_same, same_bytes, digits_are, digits_found, greatest_small}
 
 pub bind_ok : {A B : Type 0} (o : Result A ℕ) (f : A → Result B ℕ) (y : B) → (o >>= f) ≡ Ok y → (x : A) × (o ≡ Ok x) × (f x ≡ Ok y)
@@ -61,31 +61,6 @@ word_next c more [] h = absurd cc
 word_next c more (t ∷ ts) h =
     let form = word_form_is c more t.form h in
     (t.place, ap (λ (f : Form). as_token f t.place ∷ ts) form ∙ ap (λ (r : Tokens). word (c ∷ more) t.place ∷ r) (sym (word_behind t ts c more form)))
-
-pub expect_sound : (size c : ℕ) (more : Bytes) (ts rest : Tokens) → expect size (c ∷ more) ts ≡ Ok rest → (p : Place) × (ts ≡ sign (c ∷ more) p ∷ rest)
-unfolding expect
-expect_sound size c more ts rest h = elim (chosen (sign_is (c ∷ more) ts) (Ok (after_sign ts)) (Err (place size ts)) (Ok rest) h) [
-  | inl y ↦
-      let n = sign_next c more ts y.0 in
-      (n.0, n.1 ∙ ap (λ (r : Tokens). sign (c ∷ more) n.0 ∷ r) (ok_is (after_sign ts) rest y.1))
-  | inr y ↦ absurd cc
-]
-
-pub expect_word_sound : (size c : ℕ) (more : Bytes) (ts rest : Tokens) → expect_word size (c ∷ more) ts ≡ Ok rest → (p : Place) × (ts ≡ word (c ∷ more) p ∷ rest)
-unfolding expect_word
-expect_word_sound size c more ts rest h = elim (chosen (word_is (c ∷ more) ts) (Ok (after_word ts)) (Err (place size ts)) (Ok rest) h) [
-  | inl y ↦
-      let n = word_next c more ts y.0 in
-      (n.0, n.1 ∙ ap (λ (r : Tokens). word (c ∷ more) n.0 ∷ r) (ok_is (after_word ts) rest y.1))
-  | inr y ↦ absurd cc
-]
-
-pub on_line_sound : (size : ℕ) (ts rest : Tokens) → on_line size ts ≡ Ok rest → (on_new_line ts ≡ false) × (ts ≡ rest)
-unfolding on_line
-on_line_sound size ts rest h = elim (chosen (on_new_line ts) (Err (place size ts)) (Ok ts) (Ok rest) h) [
-  | inl y ↦ absurd cc
-  | inr y ↦ (y.0, ok_is ts rest y.1)
-]
 
 -- a run of at least a byte stands at the front
 some_word : (ts : Tokens) → is_some_text (word_of ts) ≡ true → (p : Place) × (ts ≡ word (word_of ts) p ∷ after_word ts)

@@ -7,8 +7,16 @@ pub mod Named
 pub mod Fronted
 pub mod Alike
 pub mod Aimed
-pub mod Sound
 pub mod Firsts
+pub mod Pieces
+pub mod Onward
+pub mod Singles
+pub mod Forms
+pub mod StmtForms
+pub mod Leasts
+pub mod Stops
+pub mod Viable
 pub mod Steps
 pub mod Complete
+pub mod Placed
 pub mod Exact

@@ -6,8 +6,9 @@ use thiserror::Error;
 /// Why there is no tree.
 #[derive(Clone, Copy, Debug, Drop, PartialEq, Eq, Error)]
 pub enum JsFault {
-    /// No tree has the bytes as a spelling. The offset in bytes is that of the first token through which no file begins,
-    /// or the length of the bytes.
+    /// No tree has the bytes as a spelling. The offset in bytes is that of the first token through which no file begins:
+    /// files begin with the tokens in front of it, and none with it too. Where files begin with all the tokens, it is the
+    /// length of the bytes.
     #[error("no file of the subset goes on as the one at byte {at}")]
     NotInProfile { at: u64 },
     /// Memory was wanting.

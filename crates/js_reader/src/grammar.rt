@@ -9,6 +9,7 @@ ghost use Rattle.js_reader.specs.Parsing as spec;
 ghost use Rattle.js_reader.specs.Nests.{Nests};
 
 use crate::fault::JsFault;
+use crate::growing::Growing;
 use crate::names::{Declared, is_name};
 use crate::source::Source;
 use crate::targets::{Target, target_of};
@@ -48,7 +49,7 @@ fn parameter_names<'t>(
 ) -> Result<((Items<Items<u8>>, Declared<'t>), &'t [u8]), JsFault>
     ensures { Gives (λ x. ((x.0.0, x.0.1), tokens_of source.size x.1.now)) result (spec.names_from source.size turns [] [] (tokens_of source.size bytes.now)) }
 {
-    let mut found = Items::new(source.alloc);
+    let mut found = Growing::new(source.alloc);
     let mut names = Declared::new(source.alloc);
     let mut rest = bytes;
     for _turn in 0..turns {
@@ -56,7 +57,7 @@ fn parameter_names<'t>(
         found.push(name)?;
         let (sign, more) = source.sign(after);
         if sign != b",".as_slice() {
-            return Ok(((found, names), after));
+            return Ok(((found.into_items(), names), after));
         }
         rest = more;
     }
@@ -123,14 +124,14 @@ impl<
         requires { Nests self.now.depth (E.pre self.now.expr) (E.post self.now.expr) (S.pre self.now.stmt) (S.post self.now.stmt) }
         ensures { Gives (λ x. (x.0, tokens_of self.now.source.size x.1.now)) result (spec.exprs_from self.now.source.size self.now.turns (spec.expr_at self.now.source.size self.now.depth) (spec.stmt_at self.now.source.size self.now.depth) self.now.turns [] (tokens_of self.now.source.size bytes.now)) }
     {
-        let mut found = Items::new(self.source.alloc);
+        let mut found = Growing::new(self.source.alloc);
         let mut rest = bytes;
         for _turn in 0..self.turns {
             let (item, after) = self.expr(rest)?;
             found.push(item)?;
             let (sign, more) = self.source.sign(after);
             if sign != b",".as_slice() {
-                return Ok((found, after));
+                return Ok((found.into_items(), after));
             }
             rest = more;
         }
@@ -323,12 +324,12 @@ impl<
         requires { Nests self.now.depth (E.pre self.now.expr) (E.post self.now.expr) (S.pre self.now.stmt) (S.post self.now.stmt) }
         ensures { Gives (λ x. (x.0, tokens_of self.now.source.size x.1.now)) result (spec.selectors_from self.now.source.size self.now.turns (spec.expr_at self.now.source.size self.now.depth) (spec.stmt_at self.now.source.size self.now.depth) self.now.turns [] (tokens_of self.now.source.size bytes.now)) }
     {
-        let mut found = Items::new(self.source.alloc);
+        let mut found = Growing::new(self.source.alloc);
         let mut rest = bytes;
         for _turn in 0..self.turns {
             let (sign, _) = self.source.sign(rest);
             if !selects(sign) {
-                return Ok((found, rest));
+                return Ok((found.into_items(), rest));
             }
             let (item, after) = self.selector(rest)?;
             found.push(item)?;
@@ -357,6 +358,8 @@ impl<
             return Ok((JsExpr::Primary(left), bytes));
         };
         let (right, rest) = self.primary(after)?;
+        let left = Boxed::new(self.source.alloc, left)?;
+        let right = Boxed::new(self.source.alloc, right)?;
         Ok((JsExpr::Binary(operator, left, right), rest))
     }
 
@@ -417,14 +420,14 @@ impl<
         requires { Nests self.now.depth (E.pre self.now.expr) (E.post self.now.expr) (S.pre self.now.stmt) (S.post self.now.stmt) }
         ensures { Gives (λ x. (x.0, tokens_of self.now.source.size x.1.now)) result (spec.entries_from self.now.source.size self.now.turns (spec.expr_at self.now.source.size self.now.depth) (spec.stmt_at self.now.source.size self.now.depth) self.now.turns [] (tokens_of self.now.source.size bytes.now)) }
     {
-        let mut found = Items::new(self.source.alloc);
+        let mut found = Growing::new(self.source.alloc);
         let mut rest = bytes;
         for _turn in 0..self.turns {
             let (item, after) = self.entry(rest)?;
             found.push(item)?;
             let (sign, more) = self.source.sign(after);
             if sign != b",".as_slice() {
-                return Ok((found, after));
+                return Ok((found.into_items(), after));
             }
             rest = more;
         }
@@ -477,13 +480,13 @@ impl<
         requires { Nests self.now.depth (E.pre self.now.expr) (E.post self.now.expr) (S.pre self.now.stmt) (S.post self.now.stmt) }
         ensures { Gives (λ x. (x.0, tokens_of self.now.source.size x.1.now)) result (spec.stmts_from self.now.source.size self.now.turns (spec.expr_at self.now.source.size self.now.depth) (spec.stmt_at self.now.source.size self.now.depth) self.now.turns names.entry [] (tokens_of self.now.source.size bytes.now)) }
     {
-        let mut found = Items::new(self.source.alloc);
+        let mut found = Growing::new(self.source.alloc);
         let mut names = names;
         let mut rest = bytes;
         for _turn in 0..self.turns {
             let (sign, more) = self.source.sign(rest);
             if sign == b"}".as_slice() {
-                return Ok((found, more));
+                return Ok((found.into_items(), more));
             }
             let (item, after) = self.named_stmt(&mut names, rest)?;
             found.push(item)?;
@@ -577,6 +580,7 @@ impl<
             Target::Slot(object, index) => {
                 let (value, after) = self.expr(after)?;
                 let rest = self.source.expect(b";", after)?;
+                let object = Boxed::new(self.source.alloc, object)?;
                 Ok((
                     JsStmt::Store {
                         at,
@@ -645,13 +649,14 @@ impl<
     }
 
     #[tactic(auto, unfolding(crate::specs::Parsing::condition))]
-    fn condition<'t>(&self, bytes: &'t [u8]) -> Result<(JsExpr, &'t [u8]), JsFault>
+    fn condition<'t>(&self, bytes: &'t [u8]) -> Result<(Boxed<JsExpr>, &'t [u8]), JsFault>
         requires { Nests self.now.depth (E.pre self.now.expr) (E.post self.now.expr) (S.pre self.now.stmt) (S.post self.now.stmt) }
         ensures { Gives (λ x. (x.0, tokens_of self.now.source.size x.1.now)) result (spec.condition self.now.source.size self.now.turns (spec.expr_at self.now.source.size self.now.depth) (spec.stmt_at self.now.source.size self.now.depth) (tokens_of self.now.source.size bytes.now)) }
     {
         let after = self.source.expect(b"(", bytes)?;
         let (test, after) = self.expr(after)?;
         let rest = self.source.expect(b")", after)?;
+        let test = Boxed::new(self.source.alloc, test)?;
         Ok((test, rest))
     }
 
@@ -888,12 +893,12 @@ impl<
         requires { Nests self.now.depth (E.pre self.now.expr) (E.post self.now.expr) (S.pre self.now.stmt) (S.post self.now.stmt) }
         ensures { Gives (λ x. x) result (spec.items_from self.now.source.size self.now.turns (spec.expr_at self.now.source.size self.now.depth) (spec.stmt_at self.now.source.size self.now.depth) self.now.turns [] [] (tokens_of self.now.source.size bytes.now)) }
     {
-        let mut found = Items::new(self.source.alloc);
+        let mut found = Growing::new(self.source.alloc);
         let mut names = Declared::new(self.source.alloc);
         let mut rest = bytes;
         for _turn in 0..self.turns {
             if self.source.is_end(rest) {
-                return Ok(found);
+                return Ok(found.into_items());
             }
             let (item, after) = self.item(&mut names, rest)?;
             found.push(item)?;

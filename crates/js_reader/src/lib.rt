@@ -2,6 +2,7 @@
 //!
 //! - [`bytes`]: classes and fronts of bytes.
 //! - [`strings`], [`numbers`], [`names`], [`words`]: what tokens stand for.
+//! - [`growing`]: lists that grow, and then take no more memory than they need.
 //! - [`source`]: one token at a time.
 //! - [`targets`]: what may be assigned to.
 //! - [`grammar`]: the rules of the grammar.
@@ -12,6 +13,7 @@
 mod bytes;
 mod fault;
 mod grammar;
+mod growing;
 mod names;
 mod numbers;
 mod read;
@@ -21,7 +23,7 @@ mod targets;
 mod words;
 
 pub use fault::JsFault;
-pub use read::{one_token_list, one_tree, printed_is_read_back, read_file};
+pub use read::{one_fault, one_token_list, one_tree, printed_is_read_back, read_file};
 
 #[cfg(test)]
 mod tests;

@@ -5,7 +5,7 @@ ghost use Rattle.js_tree.specs.Spelling.{IsSpelled};
 ghost use Rattle.js_reader.specs.Scanning.{tokens_of};
 ghost use Rattle.js_reader.specs.Taking.{Gives};
 ghost use Rattle.js_reader.specs.Parsing as spec;
-ghost use Rattle.js_reader.specs.Faults.{IsFaultOf, OneTree, OneTokenList, PrintedIsReadBack};
+ghost use Rattle.js_reader.specs.Faults.{IsFaultOf, OneFault, OneTree, OneTokenList, PrintedIsReadBack};
 
 use crate::fault::JsFault;
 use crate::grammar::{Grammar, expr, stmt};
@@ -31,7 +31,8 @@ fn items_of(alloc: Global, bytes: &[u8]) -> Result<JsItems, JsFault>
 
 /// The tree that has these bytes as a spelling. Takes time in the number of bytes.
 ///
-/// Errors: `NotInProfile` exactly where no tree has these bytes as a spelling.
+/// Errors: `NotInProfile` exactly where no tree has these bytes as a spelling, at the first token through which no file
+/// begins.
 pub fn read_file(alloc: Global, bytes: &[u8]) -> Result<JsFile, JsFault>
     ensures found { IfOk result (λ file. IsSpelled bytes.now file) }
     ensures fault { IfErr result (λ fault. IsFaultOf bytes.now fault) }
@@ -45,6 +46,11 @@ pub fn read_file(alloc: Global, bytes: &[u8]) -> Result<JsFile, JsFault>
 /// A law: bytes have exactly one list of tokens.
 pub fn one_token_list()
     ensures { OneTokenList }
+{}
+
+/// A law: tokens leave all files at one place alone.
+pub fn one_fault()
+    ensures { OneFault }
 {}
 
 /// A law: bytes are a spelling of at most one tree.

@@ -6,6 +6,7 @@ ghost use Rattle.js_tree.specs.Tokens as tokens;
 ghost use Rattle.js_reader.specs.Scanning as spec;
 
 use crate::bytes::{begins, is_digit, next};
+use crate::growing::Growing;
 use sqlite_items::Items;
 use std::alloc::{AllocError, Global};
 
@@ -78,11 +79,11 @@ fn unit(bytes: &[u8]) -> Option<(u16, &[u8])>
 fn units(alloc: Global, bytes: &[u8]) -> Result<Option<(Items<u16>, &[u8])>, AllocError>
     ensures { IfOk result (λ found. option_map (λ x. (x.0, x.1.now)) found ≡ spec.units_from (length bytes.now) [] bytes.now) }
 {
-    let mut found = Items::new(alloc);
+    let mut found = Growing::new(alloc);
     let mut rest = bytes;
     for _turn in 0..bytes.len() {
         if begins(b'"', rest) {
-            return Ok(Some((found, &rest[1..])));
+            return Ok(Some((found.into_items(), &rest[1..])));
         }
         let Some((unit, after)) = unit(rest) else {
             return Ok(None);

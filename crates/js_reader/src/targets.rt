@@ -4,7 +4,7 @@ ghost use Rattle.std.specs.Prelude.{◌≡◌};
 ghost use Rattle.js_reader.specs.Parsing as spec;
 
 use js_tree::{JsExpr, JsHead, JsPrimary, JsSelector};
-use sqlite_items::Items;
+use sqlite_items::{Boxed, Items};
 
 /// What a primary expression is as the target of an assignment.
 #[derive(Drop)]
@@ -12,7 +12,7 @@ pub enum Target {
     /// A name alone.
     Name(Items<u8>),
     /// `primary[index]`
-    Slot(JsPrimary, JsExpr),
+    Slot(JsPrimary, Boxed<JsExpr>),
     /// No target.
     Other,
 }
@@ -30,7 +30,7 @@ fn slot(head: JsHead, selectors: Items<JsSelector>, last: JsSelector) -> Target
     ensures { result ≡ spec.slot head selectors last }
 {
     match last {
-        JsSelector::Index(index) => Target::Slot(JsPrimary { head, selectors }, index.into_inner()),
+        JsSelector::Index(index) => Target::Slot(JsPrimary { head, selectors }, index),
         _ => Target::Other,
     }
 }

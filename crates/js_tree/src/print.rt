@@ -184,7 +184,12 @@ impl<
     {
         match expr {
             JsExpr::Primary(primary) => self.push_primary(out, primary),
-            JsExpr::Binary(operator, left, right) => self.push_binary(out, *operator, left, right),
+            JsExpr::Binary(operator, left, right) => self.push_binary(
+                out,
+                *operator,
+                left.get(),
+                right.get(),
+            ),
             JsExpr::TypeOf(operand) => self.push_type_of(out, operand),
             JsExpr::Function(function) => self.push_function_expr(out, function),
             JsExpr::NewMap => out.extend(b"new Map()"),
@@ -429,15 +434,15 @@ impl<
                 index,
                 value,
                 ..
-            } => self.push_store(out, object, index, value),
+            } => self.push_store(out, object.get(), index.get(), value),
             JsStmt::Perform { primary, .. } => self.push_perform(out, primary),
-            JsStmt::If { test, holds, .. } => self.push_if(out, test, holds.as_slice()),
+            JsStmt::If { test, holds, .. } => self.push_if(out, test.get(), holds.as_slice()),
             JsStmt::IfElse {
                 test,
                 holds,
                 fails,
                 ..
-            } => self.push_if_else(out, test, holds.as_slice(), fails.as_slice()),
+            } => self.push_if_else(out, test.get(), holds.as_slice(), fails.as_slice()),
             JsStmt::Loop { body, .. } => self.push_loop(out, body.as_slice()),
             JsStmt::Labelled { label, body, .. } => self.push_labelled(
                 out,

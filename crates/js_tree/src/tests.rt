@@ -2,7 +2,7 @@ use super::{
     JsExpr, JsFile, JsFunction, JsHead, JsItem, JsOperator, JsPrimary, JsSelector, JsStmt,
     print_file,
 };
-use sqlite_items::Items;
+use sqlite_items::{Boxed, Items};
 use std::alloc::{AllocError, Global};
 use std::process::Abort;
 use std::test::Fail;
@@ -61,8 +61,9 @@ fn an_empty_function(rt: HostRuntime) -> Result<(), Fail> {
 #[test]
 fn a_comparison(rt: HostRuntime) -> Result<(), Fail> {
     let alloc = rt.alloc();
-    let limit = alone(alloc, JsHead::Negative(9007199254740991));
-    let value = JsExpr::Binary(JsOperator::LessEqual, named(alloc, "x$")?, limit);
+    let name = Boxed::new(alloc, named(alloc, "x$")?)?;
+    let limit = Boxed::new(alloc, alone(alloc, JsHead::Negative(9007199254740991)))?;
+    let value = JsExpr::Binary(JsOperator::LessEqual, name, limit);
     let file = variable(alloc, value)?;
     assert_printed(&rt, alloc, &file, "var v$ = x$ <= -9007199254740991;\n")
 }

@@ -1,4 +1,4 @@
-//! Trees of files of the subset.
+//! Trees of files of the subset. What would make an expression or a statement large stands in a box of its own.
 
 use crate::words::{JsMember, JsOperator};
 use code_units::Text;
@@ -11,7 +11,7 @@ pub enum JsExpr {
     /// A primary expression alone.
     Primary(JsPrimary),
     /// `left operator right`
-    Binary(JsOperator, JsPrimary, JsPrimary),
+    Binary(JsOperator, Boxed<JsPrimary>, Boxed<JsPrimary>),
     /// `typeof operand`
     TypeOf(JsPrimary),
     /// `function (parameters) { body }`
@@ -109,8 +109,8 @@ pub enum JsStmt {
     /// `object[index] = value;`
     Store {
         at: u64,
-        object: JsPrimary,
-        index: JsExpr,
+        object: Boxed<JsPrimary>,
+        index: Boxed<JsExpr>,
         value: JsExpr,
     },
     /// `primary;`
@@ -121,13 +121,13 @@ pub enum JsStmt {
     /// `if (test) { holds }`
     If {
         at: u64,
-        test: JsExpr,
+        test: Boxed<JsExpr>,
         holds: Items<JsStmt>,
     },
     /// `if (test) { holds } else { fails }`
     IfElse {
         at: u64,
-        test: JsExpr,
+        test: Boxed<JsExpr>,
         holds: Items<JsStmt>,
         fails: Items<JsStmt>,
     },
