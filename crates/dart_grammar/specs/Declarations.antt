@@ -4,6 +4,10 @@ use Rattle.dart_syntax.specs.declared.words.Word.TheVariants as w
 use Rattle.dart_syntax.specs.declared.words.Sign.TheVariants as s
 use Rattle.dart_syntax.specs.declared.tokens.Form.{Form}
 use Rattle.dart_syntax.specs.declared.tokens.Form.TheVariants as f
+use Rattle.dart_grammar.specs.declared.kinds.DeclarationKind.{DeclarationKind}
+use Rattle.dart_grammar.specs.declared.kinds.DeclarationKind.TheVariants as k
+use Rattle.dart_grammar.specs.declared.kinds.BuiltIn.{BuiltIn}
+use Rattle.dart_grammar.specs.declared.kinds.BuiltIn.TheVariants as c
 use Rattle.dart_grammar.specs.declared.trees.Span.{Span}
 use Rattle.dart_grammar.specs.declared.trees.Name.{Name}
 use Rattle.dart_grammar.specs.declared.trees.Expr.{Expr}
@@ -30,7 +34,7 @@ use Rattle.dart_grammar.specs.declared.declarations.OperatorMethod.{OperatorMeth
 use Rattle.dart_grammar.specs.declared.declarations.Constructor.{Constructor}
 use Rattle.dart_grammar.specs.declared.declarations.Initialiser.{Initialiser}
 use Rattle.dart_grammar.specs.declared.declarations.Initialiser.TheVariants as i
-use Rattle.dart_grammar.specs.Marks.{Tokens, token, word, sign, ident, is_named, is_text_open, next, next_word, next_sign, next_name, behind}
+use Rattle.dart_grammar.specs.Marks.{Tokens, token, word, sign, ident, as_word, is_named, is_text_open, next, next_word, next_sign, next_name, behind}
 use Rattle.dart_grammar.specs.Shapes.{begins_type, begins_variables, result_end, metadata_end}
 use Rattle.dart_grammar.specs.Trees.{span, name_of, span_of}
 use Rattle.dart_grammar.specs.Grammar.{start, IsType, MayHaveResult, IsMetadata, IsParameters, IsParameter, AreVariables, AreArguments, IsExpr, IsBlock}
@@ -45,9 +49,6 @@ import_word = codes "import"
 
 abbrev pub deferred_word : List ℕ
 deferred_word = codes "deferred"
-
-abbrev pub as_word : List ℕ
-as_word = codes "as"
 
 abbrev pub show_word : List ℕ
 show_word = codes "show"
@@ -75,6 +76,21 @@ operator_word = codes "operator"
 
 abbrev pub native_word : List ℕ
 native_word = codes "native"
+
+abbrev pub spelling : BuiltIn → List ℕ
+spelling c.Library = library_word
+spelling c.Import = import_word
+spelling c.Deferred = deferred_word
+spelling c.As = as_word
+spelling c.Show = show_word
+spelling c.Hide = hide_word
+spelling c.Abstract = abstract_word
+spelling c.Implements = implements_word
+spelling c.Static = static_word
+spelling c.Get = get_word
+spelling c.Set = set_word
+spelling c.Operator = operator_word
+spelling c.Native = native_word
 
 abbrev pub next_named : List ℕ → Tokens → Bool
 next_named text = next (is_named text)
@@ -121,48 +137,41 @@ begins_setter ts = next_named set_word ts && next_name (behind ts)
 abbrev pub begins_operator : Tokens → Bool
 begins_operator ts = next_named operator_word ts && next is_operator_sign (behind ts)
 
--- what a declaration is that begins no class
-pub data Kind : Type 0 where
-  Variables' : Kind
-  Function' : Kind
-  Getter' : Kind
-  Setter' : Kind
-  Operator' : Kind
-
 -- with these tokens where its name is due
-abbrev pub kind_at : Tokens → Kind
+abbrev pub kind_at : Tokens → DeclarationKind
 kind_at ts =
-    if begins_getter ts then Getter'
-    else if begins_setter ts then Setter'
-    else if begins_operator ts then Operator'
-    else if next_name ts && next_sign s.OpenParen (behind ts) then Function'
-    else Variables'
+    if begins_getter ts then k.Getter
+    else if begins_setter ts then k.Setter
+    else if begins_operator ts then k.Operator
+    else if next_name ts && next_sign s.OpenParen (behind ts) then k.Function
+    else k.Variables
 
-abbrev pub is_variables : Kind → Bool
-is_variables Variables' = true
+abbrev pub is_variables : DeclarationKind → Bool
+is_variables k.Variables = true
 is_variables _ = false
 
-abbrev pub kind_behind : Option Tokens → Kind
-kind_behind None = Variables'
+abbrev pub kind_behind : Option Tokens → DeclarationKind
+kind_behind None = k.Variables
 kind_behind (Some ts) = kind_at ts
 
 -- A type, or `void`, may stand before the name.
-unfoldable pub kind_of : Tokens → Kind
-kind_of ts = if begins_variables ts then Variables' else if is_variables (kind_at ts) then kind_behind (result_end ts) else kind_at ts
+unfoldable pub kind_of : Tokens → DeclarationKind
+kind_of ts = if begins_variables ts then k.Variables else if is_variables (kind_at ts) then kind_behind (result_end ts) else kind_at ts
 
 -- The name of a class and `(`, or a dot, a name and `(`, begin a constructor of it.
 abbrev pub begins_constructor : List ℕ → Tokens → Bool
 begins_constructor name ts = next_named name ts && next_sign s.OpenParen (path_end 1 (behind ts))
 
+-- what `static` can make static, in the class of this name
+abbrev pub makes_static : List ℕ → Tokens → Bool
+makes_static name ts =
+    begins_variables ts || next_word w.Void ts || begins_getter ts || begins_setter ts
+    || (begins_type ts && not (begins_operator ts))
+    || (next_name ts && next_sign s.OpenParen (behind ts) && not (next_named name ts))
+
 -- `static` stands before what it makes static, and else is a type.
 unfoldable pub begins_static : List ℕ → Tokens → Bool
-begins_static name ts = next_named static_word ts && makes_static (behind ts)
-  where
-    makes_static : Tokens → Bool
-    makes_static ts =
-        begins_variables ts || next_word w.Void ts || begins_getter ts || begins_setter ts
-        || (begins_type ts && not (begins_operator ts))
-        || (next_name ts && next_sign s.OpenParen (behind ts) && not (next_named name ts))
+begins_static name ts = next_named static_word ts && makes_static name (behind ts)
 
 -- ---- bodies, with where they end
 
@@ -281,10 +290,10 @@ pub data IsConstructor (native : Bool) (name : List ℕ) (from : ℕ) : Tokens �
 
 -- function, accessor or vars of a class, behind its metadata and `static`
 pub data IsPlainMember (native is_static : Bool) (from : ℕ) : Tokens → Member → Tokens → Type 0 where
-  method : {x : Function} {ts rest : Tokens} → kind_of ts ≡ Function' → IsFunction native true from ts x rest → IsPlainMember native is_static from ts (m.Function is_static x) rest
-  getter_member : {x : Getter} {ts rest : Tokens} → kind_of ts ≡ Getter' → IsGetter native true from ts x rest → IsPlainMember native is_static from ts (m.Getter is_static x) rest
-  setter_member : {x : Setter} {ts rest : Tokens} → kind_of ts ≡ Setter' → IsSetter native true from ts x rest → IsPlainMember native is_static from ts (m.Setter is_static x) rest
-  fields : {x : Variables} {j : ℕ} {ts rest : Tokens} → kind_of ts ≡ Variables' → AreVariables ts x j rest → IsPlainMember native is_static from ts (m.Fields is_static (span from j) x) rest
+  method : {x : Function} {ts rest : Tokens} → kind_of ts ≡ k.Function → IsFunction native true from ts x rest → IsPlainMember native is_static from ts (m.Function is_static x) rest
+  getter_member : {x : Getter} {ts rest : Tokens} → kind_of ts ≡ k.Getter → IsGetter native true from ts x rest → IsPlainMember native is_static from ts (m.Getter is_static x) rest
+  setter_member : {x : Setter} {ts rest : Tokens} → kind_of ts ≡ k.Setter → IsSetter native true from ts x rest → IsPlainMember native is_static from ts (m.Setter is_static x) rest
+  fields : {x : Variables} {j : ℕ} {ts rest : Tokens} → kind_of ts ≡ k.Variables → AreVariables ts x j rest → IsPlainMember native is_static from ts (m.Fields is_static (span from j) x) rest
 
 -- member of the class of this name
 pub data IsMember (native : Bool) (name : List ℕ) : Tokens → Member → Tokens → Type 0 where
@@ -292,7 +301,7 @@ pub data IsMember (native : Bool) (name : List ℕ) : Tokens → Member → Toke
       → IsPlainMember native true (start ts) mid x rest → IsMember native name ts x rest
   constructor_member : {x : Constructor} {ts mid rest : Tokens} → IsMetadata ts mid → begins_static name mid ≡ false → begins_constructor name mid ≡ true
       → IsConstructor native name (start ts) mid x rest → IsMember native name ts (m.Constructor x) rest
-  operator_member : {x : OperatorMethod} {ts mid rest : Tokens} → IsMetadata ts mid → begins_static name mid ≡ false → begins_constructor name mid ≡ false → kind_of mid ≡ Operator'
+  operator_member : {x : OperatorMethod} {ts mid rest : Tokens} → IsMetadata ts mid → begins_static name mid ≡ false → begins_constructor name mid ≡ false → kind_of mid ≡ k.Operator
       → IsOperator native (start ts) mid x rest → IsMember native name ts (m.Operator x) rest
   plain_member : {x : Member} {ts mid rest : Tokens} → IsMetadata ts mid → begins_static name mid ≡ false → begins_constructor name mid ≡ false
       → IsPlainMember native false (start ts) mid x rest → IsMember native name ts x rest
@@ -327,13 +336,13 @@ pub data IsDeclaration (native : Bool) : Tokens → Declaration → Tokens → T
       → IsMetadata ts mid → IsClassHead mid is_abstract x xs (sign s.Assign p ∷ after) → IsType after y j (word w.With q ∷ late) → AreSupertypes late ys end
       → MayImplement end zs (sign s.Semicolon r ∷ rest)
       → IsDeclaration native ts (d.Alias (record { span = span (start ts) r.to; is_abstract = is_abstract; name = x; type_parameters = xs; superclass = y; mixins = ys; interfaces = zs })) rest
-  function_declaration : {x : Function} {ts mid rest : Tokens} → IsMetadata ts mid → begins_class mid ≡ false → kind_of mid ≡ Function' → IsFunction native false (start ts) mid x rest
+  function_declaration : {x : Function} {ts mid rest : Tokens} → IsMetadata ts mid → begins_class mid ≡ false → kind_of mid ≡ k.Function → IsFunction native false (start ts) mid x rest
       → IsDeclaration native ts (d.Function x) rest
-  getter_declaration : {x : Getter} {ts mid rest : Tokens} → IsMetadata ts mid → begins_class mid ≡ false → kind_of mid ≡ Getter' → IsGetter native false (start ts) mid x rest
+  getter_declaration : {x : Getter} {ts mid rest : Tokens} → IsMetadata ts mid → begins_class mid ≡ false → kind_of mid ≡ k.Getter → IsGetter native false (start ts) mid x rest
       → IsDeclaration native ts (d.Getter x) rest
-  setter_declaration : {x : Setter} {ts mid rest : Tokens} → IsMetadata ts mid → begins_class mid ≡ false → kind_of mid ≡ Setter' → IsSetter native false (start ts) mid x rest
+  setter_declaration : {x : Setter} {ts mid rest : Tokens} → IsMetadata ts mid → begins_class mid ≡ false → kind_of mid ≡ k.Setter → IsSetter native false (start ts) mid x rest
       → IsDeclaration native ts (d.Setter x) rest
-  variables_declaration : {x : Variables} {j : ℕ} {ts mid rest : Tokens} → IsMetadata ts mid → begins_class mid ≡ false → kind_of mid ≡ Variables' → AreVariables mid x j rest
+  variables_declaration : {x : Variables} {j : ℕ} {ts mid rest : Tokens} → IsMetadata ts mid → begins_class mid ≡ false → kind_of mid ≡ k.Variables → AreVariables mid x j rest
       → IsDeclaration native ts (d.Variables (span (start ts) j) x) rest
 
 -- { decl }, to the end

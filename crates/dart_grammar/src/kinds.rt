@@ -1,4 +1,4 @@
-//! What a statement and a `for` are, as the tokens at their beginning tell.
+//! What a statement, a `for` and a declaration are, as the tokens at their beginning tell.
 
 /// What a statement is that begins with no word or sign of its own.
 #[derive(Clone, Copy, Debug, PartialEq, Eq)]
@@ -24,4 +24,37 @@ pub enum ForKind {
     Declared,
     /// Expressions, or none.
     Expressions,
+}
+
+/// What a declaration is that begins no class and no constructor.
+#[derive(Clone, Copy, Debug, PartialEq, Eq)]
+pub enum DeclarationKind {
+    /// Variables, or fields.
+    Variables,
+    /// A function, or a method.
+    Function,
+    /// A getter.
+    Getter,
+    /// A setter.
+    Setter,
+    /// An operator.
+    Operator,
+}
+
+/// A built-in identifier that the grammar of files uses: a name, and where it stands so a word of the grammar.
+#[derive(Clone, Copy, Debug, PartialEq, Eq)]
+pub enum BuiltIn {
+    Library,
+    Import,
+    Deferred,
+    As,
+    Show,
+    Hide,
+    Abstract,
+    Implements,
+    Static,
+    Get,
+    Set,
+    Operator,
+    Native,
 }

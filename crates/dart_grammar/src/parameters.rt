@@ -52,8 +52,9 @@ fn bracketed_end(ts: &[Token]) -> Option<&[Token]>
     }
 }
 
+/// Behind metadata, as often as it stands here.
 #[tactic(auto, using(crate::proofs::Turns::one_turn, crate::proofs::Turns::no_turn), unfolding(crate::specs::Shapes::metadata_end))]
-fn metadata_end(ts: &[Token]) -> Option<&[Token]>
+pub fn metadata_end(ts: &[Token]) -> Option<&[Token]>
     ensures { seen result ≡ spec.metadata_end (length ts.now) ts.now }
 {
     let mut rest = ts;

@@ -83,7 +83,8 @@ fn begins_untyped(ts: &[Token]) -> bool
     next_name(ts) && (next_sign(Sign::OpenParen, after) && opens_function(behind(after)))
 }
 
-fn begins_variables(ts: &[Token]) -> bool
+/// Whether `var`, `final` or `const` stands here.
+pub fn begins_variables(ts: &[Token]) -> bool
     ensures { result ≡ spec.begins_variables ts.now }
 {
     next_word(Word::Var, ts) || next_word(Word::Final, ts) || next_word(Word::Const, ts)

@@ -12,7 +12,7 @@ pub fn span_of(expr: &Expr) -> Span
     ensures { result ≡ spec.span_of expr.now }
 {
     match expr {
-        Expr::Chained(chain) => chain.span,
+        Expr::Chained(chain) => chain.get().span,
         Expr::StepBefore(span, _, _) => *span,
         Expr::StepBehind(span, _, _) => *span,
         Expr::Prefixed(span, _, _) => *span,
@@ -80,11 +80,11 @@ pub fn target_span(target: &Target) -> Span
     match target {
         Target::Bare(name) => name.span,
         Target::MemberOf(chain, name) => Span {
-            from: chain.span.from,
+            from: chain.get().span.from,
             to: name.span.to,
         },
         Target::IndexOf(chain, brackets, _) => Span {
-            from: chain.span.from,
+            from: chain.get().span.from,
             to: brackets.to,
         },
     }
@@ -149,6 +149,7 @@ pub fn is_super(expr: &Expr) -> bool
 {
     match expr {
         Expr::Chained(chain) => {
+            let chain = chain.get();
             is_super_head(&chain.head) && has_none(chain.selectors.as_slice())
         }
         _ => false,

@@ -10,8 +10,8 @@ use crate::trees::{Chain, Expr, Head, Name, Operator, Span, Stmt, Target};
 use code_units::Text;
 use dart_syntax::Tokens;
 use dart_tokens::{ScanError, scan};
-use sqlite_items::Items;
-use std::alloc::Global;
+use sqlite_items::{Boxed, Items};
+use std::alloc::{AllocError, Global};
 use std::test::Fail;
 
 // The tokens of a small source.
@@ -129,24 +129,33 @@ fn the_first_overload_is_found(rt: HostRuntime) -> Result<(), Fail> {
     Ok(())
 }
 
-fn chain_of(head: Head, selectors: Items<crate::trees::Selector>) -> Expr {
+fn chain_of(
+    alloc: Global,
+    head: Head,
+    selectors: Items<crate::trees::Selector>,
+) -> Result<Expr, AllocError> {
     let span = head_span(&head);
-    Expr::Chained(Chain {
+    let chain = Chain {
         span: Span {
             from: span.from,
             to: selectors_end(span.to, selectors.as_slice()),
         },
         head,
         selectors,
-    })
+    };
+    Ok(Expr::Chained(Boxed::new(alloc, chain)?))
 }
 
 #[test]
 fn trees_have_their_places(rt: HostRuntime) -> Result<(), Fail> {
     let alloc = rt.alloc();
     let at = Span { from: 2, to: 7 };
-    let whole = chain_of(Head::Super(at), Items::new(alloc));
-    let number = chain_of(Head::Number(Span { from: 9, to: 10 }, 1), Items::new(alloc));
+    let whole = chain_of(alloc, Head::Super(at), Items::new(alloc))?;
+    let number = chain_of(
+        alloc,
+        Head::Number(Span { from: 9, to: 10 }, 1),
+        Items::new(alloc),
+    )?;
     assert!(rt; is_super(&whole) && !is_super(&number));
     assert!(rt; fits(Operator::Plus, &whole, &number) && !fits(Operator::Equal, &whole, &number));
     assert_eq!(rt; span_of(&whole), at);
@@ -156,6 +165,9 @@ fn trees_have_their_places(rt: HostRuntime) -> Result<(), Fail> {
         span: at,
     };
     assert_eq!(rt; target_span(&Target::Bare(name)), at);
-    assert_eq!(rt; stmt_span(&Stmt::Evaluate(at, number)), at);
+    assert_eq!(rt;
+        stmt_span(&Stmt::Evaluate(at, Boxed::new(alloc, number)?)),
+        at
+    );
     Ok(())
 }

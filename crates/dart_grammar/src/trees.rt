@@ -90,11 +90,11 @@ pub enum Step {
 #[derive(Drop)]
 pub enum Expr {
     /// A head, and the selectors behind it.
-    Chained(Chain),
+    Chained(Boxed<Chain>),
     /// `++target`, `--target`
-    StepBefore(Span, Step, Target),
+    StepBefore(Span, Step, Boxed<Target>),
     /// `target++`, `target--`
-    StepBehind(Span, Step, Target),
+    StepBehind(Span, Step, Boxed<Target>),
     /// `-operand`, `!operand`
     Prefixed(Span, PrefixOperator, Boxed<Expr>),
     /// `left operator right`
@@ -108,7 +108,7 @@ pub enum Expr {
     /// `test ? holds : fails`
     Conditional(Span, Boxed<Expr>, Boxed<Expr>, Boxed<Expr>),
     /// `target = value`, `target += value`, ..
-    Assigned(Span, Target, Assignment, Boxed<Expr>),
+    Assigned(Span, Boxed<Target>, Assignment, Boxed<Expr>),
     /// `throw value`
     Throw(Span, Boxed<Expr>),
 }
@@ -158,7 +158,7 @@ pub enum Head {
 #[cycle(tree)]
 #[derive(Drop)]
 pub struct Interpolation {
-    pub value: Expr,
+    pub value: Boxed<Expr>,
     pub behind: Text,
 }
 
@@ -166,8 +166,8 @@ pub struct Interpolation {
 #[cycle(tree)]
 #[derive(Drop)]
 pub struct Entry {
-    pub key: Expr,
-    pub value: Expr,
+    pub key: Boxed<Expr>,
+    pub value: Boxed<Expr>,
 }
 
 /// `(items)`
@@ -199,9 +199,9 @@ pub enum Target {
     /// A name.
     Bare(Name),
     /// `object.name`
-    MemberOf(Chain, Name),
+    MemberOf(Boxed<Chain>, Name),
     /// `object[index]`; the span is that of the index with its brackets.
-    IndexOf(Chain, Span, Boxed<Expr>),
+    IndexOf(Boxed<Chain>, Span, Boxed<Expr>),
 }
 
 /// `(required, [optional])`
@@ -261,23 +261,23 @@ pub enum Stmt {
     /// `;`
     Empty(Span),
     /// `value;`
-    Evaluate(Span, Expr),
+    Evaluate(Span, Boxed<Expr>),
     /// `if (test) holds`
-    If(Span, Expr, Boxed<Stmt>),
+    If(Span, Boxed<Expr>, Boxed<Stmt>),
     /// `if (test) holds else fails`
-    IfElse(Span, Expr, Boxed<Stmt>, Boxed<Stmt>),
+    IfElse(Span, Boxed<Expr>, Boxed<Stmt>, Boxed<Stmt>),
     /// `while (test) body`
-    While(Span, Expr, Boxed<Stmt>),
+    While(Span, Boxed<Expr>, Boxed<Stmt>),
     /// `do body while (test);`
-    Do(Span, Boxed<Stmt>, Expr),
+    Do(Span, Boxed<Stmt>, Boxed<Expr>),
     /// `for (var a = e; test; updates) body`
     ForDeclared(Span, Variables, Option<Boxed<Expr>>, Items<Expr>, Boxed<Stmt>),
     /// `for (firsts; test; updates) body`
     For(Span, Items<Expr>, Option<Boxed<Expr>>, Items<Expr>, Boxed<Stmt>),
     /// `for (var name in values) body`; whether `final` stands there.
-    ForInDeclared(Span, bool, Name, Expr, Boxed<Stmt>),
+    ForInDeclared(Span, bool, Name, Boxed<Expr>, Boxed<Stmt>),
     /// `for (name in values) body`
-    ForIn(Span, Name, Expr, Boxed<Stmt>),
+    ForIn(Span, Name, Boxed<Expr>, Boxed<Stmt>),
     /// `break;`
     Break(Span),
     /// `continue;`
@@ -285,7 +285,7 @@ pub enum Stmt {
     /// `return;`
     Return(Span),
     /// `return value;`
-    ReturnValue(Span, Expr),
+    ReturnValue(Span, Boxed<Expr>),
     /// `rethrow;`
     Rethrow(Span),
     /// `assert(..);`

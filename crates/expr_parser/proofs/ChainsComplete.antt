@@ -13,7 +13,7 @@ use Rattle.dart_grammar.specs.declared.trees.Expr.{out-roll-Expr}
 use Rattle.dart_grammar.specs.declared.trees.Expr.TheVariants as e
 use Rattle.dart_grammar.specs.declared.trees.Head.{Head, out-Head, out-roll-Head}
 use Rattle.dart_grammar.specs.declared.trees.Head.TheVariants as h
-use Rattle.dart_grammar.specs.declared.trees.Selector.{Selector, out-Selector}
+use Rattle.dart_grammar.specs.declared.trees.Selector.{Selector}
 use Rattle.dart_grammar.specs.declared.trees.Selector.TheVariants as l
 use Rattle.dart_grammar.specs.declared.trees.Target.{Target}
 use Rattle.dart_grammar.specs.declared.trees.Chain.{Chain}
@@ -25,24 +25,15 @@ use Rattle.dart_grammar.specs.Grammar.{MayHaveTypeArguments, IsHead, AreSelector
 use Rattle.expr_parser.specs.Cursor.{sign_at, name_at}
 use Rattle.expr_parser.specs.Inner.{Inner}
 use Rattle.expr_parser.specs.Chains as c
-use Rattle.expr_parser.specs.Chains.{selected_at, target_from, target_of, begins_selector}
+use Rattle.expr_parser.specs.Chains.{target_of, begins_selector}
 use Rattle.expr_parser.proofs.Tools.{is_sign-true}
 use Rattle.expr_parser.proofs.Shrinks.{expr_shrinks, are_arguments_shrink, parameters_shrinks, are_new_names_shrink, may_have_type_arguments_shrinks, head_shrinks}
 use Rattle.expr_parser.proofs.TypesComplete.{past_type_arguments_complete, new_names_complete}
 use Rattle.expr_parser.proofs.Firsts.{exprs_no_sign, entries_no_sign}
 use Rattle.expr_parser.proofs.PartsComplete.{Complete, bracket_comma_complete, brace_comma_complete, exprs_complete, entries_complete, arguments_complete, literal_body_complete, texts_complete, texts_open, arguments_open}
+use Rattle.expr_parser.proofs.Targets.{target_last}
 use Rattle.expr_parser.proofs.Opened.{bare_named, selected_member, selected_index}
 use Rattle.expr_parser.proofs.ChainsSound.{a_member, an_index, one_more}
-
--- ---- the last selector of a target
-
-target_tail : (a : Head) (before : List Selector) (y : Selector) (ys : List Selector) (x : Selector) → target_from a before (y ∷ (ys ++ x ∷ [])) ≡ target_from a (before ++ y ∷ []) (ys ++ x ∷ [])
-target_tail a before y [] x = refl
-target_tail a before y (z ∷ zs) x = refl
-
-target_last : (a : Head) (before xs : List Selector) (x : Selector) → target_from a before (xs ++ x ∷ []) ≡ selected_at a (before ++ xs) (out-Selector x)
-target_last a before [] x = ap (λ (ys : List Selector). selected_at a ys (out-Selector x)) (sym (append-nil before))
-target_last a before (y ∷ ys) x = target_tail a before y ys x ∙ target_last a (before ++ y ∷ []) ys x ∙ ap (λ (zs : List Selector). selected_at a zs (out-Selector x)) (append_assoc before (y ∷ []) ys)
 
 -- ---- a token that joins more loosely is no selector
 
@@ -79,7 +70,7 @@ some_left (y ∷ ys) x = refl
 named_no_super : (x : Name) → is_super_head (out-Head (h.Named x)) ≡ false
 named_no_super x = ap (λ (y : Head). is_super_head (out-Head y)) (sym (h.rolls-Named x)) ∙ ap is_super_head (out-roll-Head (Head-F.Named x))
 
-bare_no_super : (x : Name) → is_super (e.Chained (chain_of (h.Named x) [])) ≡ false
+pub bare_no_super : (x : Name) → is_super (e.Chained (chain_of (h.Named x) [])) ≡ false
 bare_no_super x = super_chain (chain_of (h.Named x) []) ∙ ap (λ (b : Bool). b && true) (named_no_super x)
 
 last_no_super : (a : Head) (xs : List Selector) (x : Selector) → is_super (e.Chained (chain_of a (xs ++ x ∷ []))) ≡ false

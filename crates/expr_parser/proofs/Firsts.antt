@@ -176,12 +176,12 @@ parameter_first (g.parameter m q r t k) = metadata_first m (final_first q (resul
 
 -- ---- statements
 
-result_no_sign : (z : Sign) {ts rest : Tokens} {x : List ℕ} {p : Span} → MayHaveResult ts (ident x p ∷ rest) → next_sign z ts ≡ false
+pub result_no_sign : (z : Sign) {ts rest : Tokens} {x : List ℕ} {p : Span} → MayHaveResult ts (ident x p ∷ rest) → next_sign z ts ≡ false
 result_no_sign z (g.no_result n) = refl
 result_no_sign z g.void_result = refl
 result_no_sign z (g.type_result {ts = ts} v b d) = name_no_sign z ts (type_first d)
 
-lead_no_sign : (z : Sign) {ts rest : Tokens} {b : Bool} → IsLead ts b rest → next_sign z ts ≡ false
+pub lead_no_sign : (z : Sign) {ts rest : Tokens} {b : Bool} → IsLead ts b rest → next_sign z ts ≡ false
 lead_no_sign z g.var_lead = refl
 lead_no_sign z (g.final_lead v d) = refl
 lead_no_sign z (g.const_lead v d) = refl

@@ -1,3 +1,8 @@
+pub mod Turns
+pub mod Pieces
+pub mod Targets
+pub mod Levels
+pub mod Clauses
 pub mod Tools
 pub mod TypesSound
 pub mod Merging
@@ -8,6 +13,8 @@ pub mod OperatorsSound
 pub mod StatementsSound
 pub mod Sound
 pub mod Shrinks
+pub mod Ends
+pub mod Takes
 pub mod TypesComplete
 pub mod Firsts
 pub mod PartsComplete
@@ -16,3 +23,4 @@ pub mod OperatorsComplete
 pub mod StatementsComplete
 pub mod Complete
 pub mod Found
+pub mod Places

@@ -2,7 +2,8 @@
 use Rattle.std.proofs.Common.{◌≡◌, ℕ, List, [], ◌∷◌, ◌++◌, refl, sym, ap, ◌∙◌, append_assoc}
 use Rattle.dart_grammar.specs.declared.trees.Interpolation.{Interpolation}
 use Rattle.dart_grammar.specs.Trees.{first_of, parts_of, with_behind}
-use Rattle.expr_parser.specs.Texts.{Merged, merged}
+use Rattle.expr_parser.specs.declared.texts.Merged.{Merged}
+use Rattle.expr_parser.specs.Texts.{merged}
 
 first_merges : (us vs ws : List ℕ) (ps qs : List Interpolation) → first_of us ps (first_of vs qs ws) ≡ first_of (first_of us ps vs) (parts_of ps vs qs) ws
 first_merges us vs ws [] [] = sym (append_assoc us vs ws)

@@ -23,7 +23,8 @@ use Rattle.expr_parser.specs.Lists as l
 use Rattle.expr_parser.specs.Parameters as r
 use Rattle.expr_parser.specs.Blocks as b
 use Rattle.expr_parser.specs.Texts as x
-use Rattle.expr_parser.specs.Texts.{Merged, is_enter, merged}
+use Rattle.expr_parser.specs.declared.texts.Merged.{Merged}
+use Rattle.expr_parser.specs.Texts.{is_enter, merged}
 use Rattle.expr_parser.proofs.Shrinks.{expr_shrinks, stmt_shrinks, parameter_shrinks, optional_shrinks, may_have_result_shrinks, may_be_final_shrinks, may_have_this_shrinks, may_have_arguments_shrinks, metadata_shrinks, are_metadata_names_shrink, text_shrinks, are_parameters_shrink}
 use Rattle.expr_parser.proofs.TypesComplete.{dotted_complete, past_result_complete}
 use Rattle.expr_parser.proofs.Firsts.{sign_begins, exprs_no_sign, entries_no_sign, parameter_first, stmt_no_close}
@@ -118,7 +119,7 @@ module _ (inner : Inner) (n : ℕ) (complete : Complete n inner) where
 
   -- ---- parameters
 
-  metadata_complete : {ts rest : Tokens} → IsMetadata ts rest → (k : ℕ) → length ts ≤ k → 0 < length rest → length ts ≤ suc n → r.metadata_from inner k ts ≡ Some rest
+  pub metadata_complete : {ts rest : Tokens} → IsMetadata ts rest → (k : ℕ) → length ts ≤ k → 0 < length rest → length ts ≤ suc n → r.metadata_from inner k ts ≡ Some rest
   unfolding r.metadata_from same_sign
   metadata_complete (g.no_metadata m) zero i p j = absurd (omega (arith, i, p))
   metadata_complete (g.no_metadata m) (suc k) i p j = rw m refl
@@ -140,7 +141,7 @@ module _ (inner : Inner) (n : ℕ) (complete : Complete n inner) where
   nested_complete (g.no_nested m) l = rw m refl
   nested_complete (g.nested d) l = rw (parameters_open d, complete.parameters d l) refl
 
-  parameter_complete : {ts rest : Tokens} {x : Parameter} → IsParameter ts x rest → length ts ≤ suc n → r.parameter inner ts ≡ Some (x, rest)
+  pub parameter_complete : {ts rest : Tokens} {x : Parameter} → IsParameter ts x rest → length ts ≤ suc n → r.parameter inner ts ≡ Some (x, rest)
   unfolding r.parameter r.past_metadata r.declared_parameter name_at
   parameter_complete {ts = ts} (g.parameter m q t h k) l =
       let late = may_have_this_shrinks h in

@@ -25,7 +25,8 @@ use Rattle.expr_parser.specs.Lists as l
 use Rattle.expr_parser.specs.Parameters as r
 use Rattle.expr_parser.specs.Blocks as b
 use Rattle.expr_parser.specs.Texts as x
-use Rattle.expr_parser.specs.Texts.{Merged, is_enter, merged}
+use Rattle.expr_parser.specs.declared.texts.Merged.{Merged}
+use Rattle.expr_parser.specs.Texts.{is_enter, merged}
 use Rattle.expr_parser.proofs.Tools.{Says, none, done, bind, weaken, choice, sign_ahead, word_ahead, take_sign, take_word, take_name}
 use Rattle.expr_parser.proofs.TypesSound.{dotted_sound, past_result_sound}
 use Rattle.expr_parser.proofs.Merging.{merged_assoc}
@@ -54,7 +55,7 @@ more_items {found = found} a k m = record { items = a ∷ m.items; are = sym (ap
 pub all_items : {A : Type 0} {P : List A → Type 0} {all : List A} → More P [] all → P all
 all_items {P = P} m = subst P m.are m.derived
 
-both_true : (a b : Bool) → (a && b) ≡ true → a ≡ true
+pub both_true : (a b : Bool) → (a && b) ≡ true → a ≡ true
 both_true true b h = refl
 both_true false b h = absurd cc
 
@@ -118,7 +119,7 @@ leave_sound (t ∷ ts) = go t.form
     go f.Leave = done (span t.from t.to, refl)
     go _ = none
 
-piece_sound : (ts : Tokens) → Says (λ y. (p : Span) × (token (f.Piece y.0) p ∷ y.1 ≡ ts)) (x.piece ts)
+pub piece_sound : (ts : Tokens) → Says (λ y. (p : Span) × (token (f.Piece y.0) p ∷ y.1 ≡ ts)) (x.piece ts)
 unfolding x.piece
 piece_sound [] = none
 piece_sound (t ∷ ts) = go t.form
@@ -127,7 +128,7 @@ piece_sound (t ∷ ts) = go t.form
     go (f.Piece us) = done (span t.from t.to, refl)
     go _ = none
 
-close_sound : (ts : Tokens) → Says (λ y. (p : Span) × (token f.TextClose p ∷ y.1 ≡ ts) × (p.to ≡ y.0)) (x.text_close ts)
+pub close_sound : (ts : Tokens) → Says (λ y. (p : Span) × (token f.TextClose p ∷ y.1 ≡ ts) × (p.to ≡ y.0)) (x.text_close ts)
 unfolding x.text_close
 close_sound [] = none
 close_sound (t ∷ ts) = go t.form
@@ -191,7 +192,7 @@ module _ (inner : Inner) (sound : Sound inner) where
 
   -- ---- parameters
 
-  metadata_from_sound : (n : ℕ) (ts : Tokens) → Says (IsMetadata ts) (r.metadata_from inner n ts)
+  pub metadata_from_sound : (n : ℕ) (ts : Tokens) → Says (IsMetadata ts) (r.metadata_from inner n ts)
   unfolding r.metadata_from
   metadata_from_sound zero ts = none
   metadata_from_sound (suc n) ts = choice (next_sign s.At ts)
@@ -209,7 +210,7 @@ module _ (inner : Inner) (sound : Sound inner) where
   declared_parameter_sound ts mid is_final after m q = bind (past_result_sound after) (λ late k. bind (this_sound late) (λ this o.
       take_name this.1 (λ t. MayHaveThis late this.0 t) o (λ x v. bind (nested_sound x.0.span.to x.1) (λ j h. done (g.parameter m q k v h)))))
 
-  parameter_sound : (ts : Tokens) → Says (λ x. IsParameter ts x.0 x.1) (r.parameter inner ts)
+  pub parameter_sound : (ts : Tokens) → Says (λ x. IsParameter ts x.0 x.1) (r.parameter inner ts)
   unfolding r.parameter r.past_metadata
   parameter_sound ts = bind (metadata_from_sound (length ts) ts) (λ mid m. declared_parameter_sound ts mid (r.finality mid).0 (r.finality mid).1 m (finality_sound mid))
 

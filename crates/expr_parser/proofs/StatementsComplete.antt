@@ -150,7 +150,7 @@ module _ (inner : Inner) (n : ℕ) (complete : Complete n inner) where
   variables_from_complete (g.more_declared {x = z} {xs = xs} d m) (suc k) found i j c a l =
       rw (variable_complete d j (unfold same_sign in refl) refl, variables_from_complete m k (found ++ z ∷ []) (omega (arith, i, declared_shrinks d)) (omega (arith, j, declared_shrinks d)) c a l, append_assoc found (z ∷ []) xs) refl
 
-  variables_complete : {ts rest : Tokens} {x : Variables} {j : ℕ} → AreVariables ts x j rest → length ts ≤ n → p.variables inner ts ≡ Some ((x, j), rest)
+  pub variables_complete : {ts rest : Tokens} {x : Variables} {j : ℕ} → AreVariables ts x j rest → length ts ≤ n → p.variables inner ts ≡ Some ((x, j), rest)
   unfolding p.variables sign_at same_sign
   variables_complete (g.variables {mid = mid} d m) i =
       rw (lead_complete d, variables_from_complete m (length mid) [] (omega arith) (omega (arith, i, lead_shrinks d)) (unfold same_sign in refl) (unfold same_sign in refl) refl) refl
@@ -187,7 +187,7 @@ module _ (inner : Inner) (n : ℕ) (complete : Complete n inner) where
   -- ---- statements
 
   pub statement_complete : {ts rest : Tokens} {a : Stmt} → IsStmt ts a rest → length ts ≤ n → p.statement inner ts ≡ Some (a, rest)
-  unfolding p.statement p.simple p.nested_block p.declare p.typed_function p.local_function p.evaluate p.choose p.otherwise p.repeat p.repeat_once p.loop p.loop_declared p.loop_plain p.loop_in_declared p.loop_in p.each p.break_loop p.continue_loop p.leave p.throw_again p.asserted p.attempt p.with_finally p.condition sign_at word_at name_at same_sign same_word for_kind_of
+  unfolding p.statement p.simple p.nested_block p.declare p.typed_function p.local_function p.evaluate p.choose p.otherwise p.repeat p.repeat_once p.for_loop p.loop_declared p.loop_plain p.loop_in_declared p.loop_in p.each p.break_loop p.continue_loop p.leave p.throw_again p.asserted p.attempt p.with_finally p.condition sign_at word_at name_at same_sign same_word for_kind_of
   statement_complete (g.nested_block (g.braces {p = q} d)) i = rw (block_complete inner n complete (g.braces {p = q} d) i) refl
   statement_complete {ts = ts} (g.declare k d) i = statement_is ts (variables_simple d) ∙ rw (k, variables_complete d i) refl
   statement_complete {ts = ts} (g.typed_function k r d b) i =

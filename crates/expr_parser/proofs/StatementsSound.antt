@@ -51,7 +51,7 @@ module _ (inner : Inner) (sound : Sound inner) where
       weaken (λ z m. more_items x.0 (λ xs k. g.more_declared (subst (λ (t : Tokens). IsDeclared ts x.0 t) (sym b.1) d) k) m) (variables_from_sound n (found ++ x.0 ∷ []) (behind x.1)))
       (λ _. done (one_item x.0 (g.last_declared d))))
 
-  variables_sound : (ts : Tokens) → Says (λ x. AreVariables ts x.0.0 x.0.1 x.1) (p.variables inner ts)
+  pub variables_sound : (ts : Tokens) → Says (λ x. AreVariables ts x.0.0 x.0.1 x.1) (p.variables inner ts)
   unfolding p.variables
   variables_sound ts = bind (lead_sound ts) (λ l d. bind (variables_from_sound (length l.1) [] l.1) (λ xs m.
       take_sign s.Semicolon xs.1 (λ t. AreDeclared l.1 xs.0 t) (all_items m) (λ q k. done (g.variables d k))))
@@ -212,9 +212,9 @@ module _ (inner : Inner) (sound : Sound inner) where
   loop_by_sound Declared q o ts h = loop_declared_sound q o ts h
   loop_by_sound Expressions q o ts h = loop_plain_sound q o ts h
 
-  loop_sound : (q : Span) (ts : Tokens) → Says (λ x. IsStmt (word w.For q ∷ ts) x.0 x.1) (p.loop inner q.from ts)
-  unfolding p.loop
-  loop_sound q ts = take_sign s.OpenParen ts (λ t. t ≡ ts) refl (λ o e.
+  for_loop_sound : (q : Span) (ts : Tokens) → Says (λ x. IsStmt (word w.For q ∷ ts) x.0 x.1) (p.for_loop inner q.from ts)
+  unfolding p.for_loop
+  for_loop_sound q ts = take_sign s.OpenParen ts (λ t. t ≡ ts) refl (λ o e.
       subst (λ (t : Tokens). Says (λ x. IsStmt (word w.For q ∷ t) x.0 x.1) (p.loop_by inner (for_kind_of o.1) q.from o.1)) e (loop_by_sound (for_kind_of o.1) q o.0 o.1 refl))
 
   break_sound : (q : Span) (ts : Tokens) → Says (λ x. IsStmt (word w.Break q ∷ ts) x.0 x.1) (p.break_loop inner q.from ts)
@@ -247,7 +247,7 @@ module _ (inner : Inner) (sound : Sound inner) where
     close : Span
     is : sign s.OpenParen opened ∷ ident x.text x.span ∷ sign s.CloseParen close ∷ rest ≡ ts
 
-  caught_sound : (ts : Tokens) → Says (λ x. Caught ts x.0 x.1) (p.caught inner ts)
+  caught_sound : (ts : Tokens) → Says (λ x. Caught ts x.0 x.1) (p.caught ts)
   unfolding p.caught
   caught_sound ts = take_sign s.OpenParen ts (λ t. t ≡ ts) refl (λ o e. take_name o.1 (λ t. sign s.OpenParen o.0 ∷ t ≡ ts) e (λ x k.
       take_sign s.CloseParen x.1 (λ t. sign s.OpenParen o.0 ∷ ident x.0.text x.0.span ∷ t ≡ ts) k (λ q n. done (record { opened = o.0; close = q.0; is = n }))))
@@ -261,7 +261,7 @@ module _ (inner : Inner) (sound : Sound inner) where
     no_catch : {ts : Tokens} → next_word w.Catch ts ≡ false → MayCatch ts None ts
     a_catch : {q o r : Span} {x : Name} {rest : Tokens} → MayCatch (word w.Catch q ∷ sign s.OpenParen o ∷ ident x.text x.span ∷ sign s.CloseParen r ∷ rest) (Some x) rest
 
-  may_catch_sound : (ts : Tokens) → Says (λ x. MayCatch ts x.0 x.1) (p.may_catch inner ts)
+  may_catch_sound : (ts : Tokens) → Says (λ x. MayCatch ts x.0 x.1) (p.may_catch ts)
   unfolding p.may_catch
   may_catch_sound ts = choice (next_word w.Catch ts)
       (λ y. let b = word_ahead w.Catch ts y in
@@ -298,7 +298,7 @@ module _ (inner : Inner) (sound : Sound inner) where
       (λ n. done (no_item (g.no_catches n)))
 
   without_finally_sound : (q : Span) (xs : List Stmt) (ds : List Catch) (i j : ℕ) (ts mid rest : Tokens) → IsBlock ts xs i mid → AreCatches i mid ds j rest → next_word w.Finally rest ≡ false
-      → Says (λ x. IsStmt (word w.Try q ∷ ts) x.0 x.1) (p.without_finally inner q.from xs ds j rest)
+      → Says (λ x. IsStmt (word w.Try q ∷ ts) x.0 x.1) (p.without_finally q.from xs ds j rest)
   without_finally_sound q xs [] i j ts mid rest d k n = none
   without_finally_sound q xs (x ∷ ds) i j ts mid rest d k n = done (g.try' d k n)
 
@@ -315,7 +315,7 @@ module _ (inner : Inner) (sound : Sound inner) where
   word_statement_sound w.If q ts = choose_sound q ts
   word_statement_sound w.While q ts = repeat_sound q ts
   word_statement_sound w.Do q ts = repeat_once_sound q ts
-  word_statement_sound w.For q ts = loop_sound q ts
+  word_statement_sound w.For q ts = for_loop_sound q ts
   word_statement_sound w.Break q ts = break_sound q ts
   word_statement_sound w.Continue q ts = continue_sound q ts
   word_statement_sound w.Return q ts = leave_sound q ts

@@ -11,3 +11,4 @@ pub mod Statements
 pub mod Knot
 pub mod Nests
 pub mod ParsingLaws
+pub mod Expressions

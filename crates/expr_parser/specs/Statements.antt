@@ -28,6 +28,23 @@ use Rattle.expr_parser.specs.Inner.{Inner}
 use Rattle.expr_parser.specs.Lists.{exprs}
 use Rattle.expr_parser.specs.Blocks.{block, local_body}
 
+-- `(name)`
+unfoldable pub caught : Parser Name
+caught ts = do
+  p ← sign_at s.OpenParen ts
+  x ← name_at p.1
+  q ← sign_at s.CloseParen x.1
+  Some (x.0, q.1)
+
+-- `catch (name)`, if it stands here
+unfoldable pub may_catch : Parser (Option Name)
+may_catch ts = if next_word w.Catch ts then (do x ← caught (behind ts); Some (Some x.0, x.1)) else Some (None, ts)
+
+-- a `try` behind its clauses, which end at j
+abbrev pub without_finally : ℕ → List Stmt → List Catch → ℕ → Parser Stmt
+without_finally from xs [] j ts = None
+without_finally from xs (d ∷ ds) j ts = Some (c.Try (span from j) xs (d ∷ ds), ts)
+
 module _ (g : Inner) where
   -- ---- parts of statements
 
@@ -187,8 +204,8 @@ module _ (g : Inner) where
   loop_by Declared from ts = loop_declared from ts
   loop_by Expressions from ts = loop_plain from ts
 
-  unfoldable pub loop : ℕ → Parser Stmt
-  loop from ts = do
+  unfoldable pub for_loop : ℕ → Parser Stmt
+  for_loop from ts = do
     p ← sign_at s.OpenParen ts
     loop_by (for_kind_of p.1) from p.1
 
@@ -220,18 +237,6 @@ module _ (g : Inner) where
 
   -- ---- `try`
 
-  -- `(name)`
-  unfoldable pub caught : Parser Name
-  caught ts = do
-    p ← sign_at s.OpenParen ts
-    x ← name_at p.1
-    q ← sign_at s.CloseParen x.1
-    Some (x.0, q.1)
-
-  -- `catch (name)`, if it stands here
-  unfoldable pub may_catch : Parser (Option Name)
-  may_catch ts = if next_word w.Catch ts then (do x ← caught (behind ts); Some (Some x.0, x.1)) else Some (None, ts)
-
   unfoldable pub catch_all : ℕ → Parser Catch
   catch_all from ts = do
     x ← caught ts
@@ -255,11 +260,6 @@ module _ (g : Inner) where
   clauses_from (suc n) found j ts =
       if begins_clause ts then (do x ← clause ts; clauses_from n (found ++ x.0 ∷ []) x.0.span.to x.1) else Some ((found, j), ts)
 
-  -- behind the clauses, which end at j
-  abbrev pub without_finally : ℕ → List Stmt → List Catch → ℕ → Parser Stmt
-  without_finally from xs [] j ts = None
-  without_finally from xs (d ∷ ds) j ts = Some (c.Try (span from j) xs (d ∷ ds), ts)
-
   unfoldable pub with_finally : ℕ → List Stmt → List Catch → Parser Stmt
   with_finally from xs ds ts = do
     ys ← block g ts
@@ -277,7 +277,7 @@ module _ (g : Inner) where
   word_statement w.If from ts rest = choose from rest
   word_statement w.While from ts rest = repeat from rest
   word_statement w.Do from ts rest = repeat_once from rest
-  word_statement w.For from ts rest = loop from rest
+  word_statement w.For from ts rest = for_loop from rest
   word_statement w.Break from ts rest = break_loop from rest
   word_statement w.Continue from ts rest = continue_loop from rest
   word_statement w.Return from ts rest = leave from rest

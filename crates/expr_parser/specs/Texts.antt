@@ -6,6 +6,7 @@ use Rattle.dart_grammar.specs.declared.trees.Interpolation.{Interpolation}
 use Rattle.dart_grammar.specs.Marks.{is_text_open, next, behind}
 use Rattle.dart_grammar.specs.Shapes.{◌>>=◌}
 use Rattle.dart_grammar.specs.Trees.{first_of, parts_of}
+use Rattle.expr_parser.specs.declared.texts.Merged.{Merged}
 use Rattle.expr_parser.specs.Cursor.{Parser, Skipper}
 use Rattle.expr_parser.specs.Inner.{Inner}
 
@@ -39,12 +40,7 @@ unfoldable pub text_close : Parser ℕ
 text_close [] = None
 text_close (t ∷ ts) = close_by t.form t.to ts
 
--- the first units of texts, the parts behind them, and where they end
-pub record Merged : Type 0 where
-  pub first : List ℕ
-  pub parts : List Interpolation
-  pub to : ℕ
-
+-- two texts, the one behind the other, as one
 abbrev pub merged : Merged → Merged → Merged
 merged x y = record { first = first_of x.first x.parts y.first; parts = parts_of x.parts y.first y.parts; to = y.to }
 

@@ -1,10 +1,15 @@
 //! What holds of the grammar and of its parser. Each function does nothing: its contract is the law.
 ghost use Rattle.expr_parser.specs.ParsingLaws.{OneExpression, OneStatement, ExpressionsAreDerived, StatementsAreDerived, ExpressionsAreParsed, StatementsAreParsed};
-ghost use Rattle.expr_parser.specs.Nests.{Nests};
+ghost use Rattle.expr_parser.specs.Expressions.{OneExpressionAt};
 
 /// Tokens begin with at most one expression that no joining token follows.
 pub fn one_expression()
     ensures { OneExpression }
+{}
+
+/// A token of a file begins at most one expression that no joining token follows, and its end is one.
+pub fn one_expression_at()
+    ensures { OneExpressionAt }
 {}
 
 /// Tokens begin with at most one statement.

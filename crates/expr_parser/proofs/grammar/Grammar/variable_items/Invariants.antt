@@ -1,0 +1,7 @@
+use Rattle.std.proofs.Common.{◌≡◌, ◌-◌, [], length}
+use Rattle.expr_parser.specs.Knot.{inner_at}
+use Rattle.expr_parser.specs.Statements.{variables_from}
+use Rattle.expr_parser.proofs.grammar.Grammar.variable_items.Given as goal
+
+abbrev pub invariant-loop-turn : goal.invariant-loop-turn
+invariant-loop-turn g l = variables_from (inner_at l.self.depth) (length l.fn.ts) [] l.fn.ts ≡ variables_from (inner_at l.self.depth) (l._turn-end - l._turn) l.found l.rest
