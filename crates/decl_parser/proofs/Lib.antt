@@ -1,0 +1,15 @@
+pub mod BodiesSound
+pub mod ClassesSound
+pub mod MembersSound
+pub mod Shrinks
+pub mod FilesSound
+pub mod Firsts
+pub mod BodiesComplete
+pub mod ClassesComplete
+pub mod MembersComplete
+pub mod FilesComplete
+pub mod Found
+pub mod Balance
+pub mod Ahead
+pub mod AheadInStatements
+pub mod Examples
