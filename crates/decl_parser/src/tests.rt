@@ -337,6 +337,61 @@ fn words_stand_wherever_names_may(rt: HostRuntime) -> Result<(), Fail> {
     Ok(())
 }
 
+// Lines of one file in which each form of the grammar stands, but for native bodies.
+const EACH_FORM: [&str; 38] = [
+    "library a.b.c;",
+    "import 'd.dart';",
+    "@a @b.c @d.e.f(1, 2) import \"e\" deferred as g show h, i hide j, k show l;",
+    "import r'm' as n;",
+    "@a var a, b = 1; final c = 2, d; const e = 3;",
+    "final a.B<c, d<e>> f = 4; const A g = 5; a.B<c> h = 6;",
+    "@a get a => 1; int get b { } set c(d) { } void set e(final f) => f;",
+    "a() { } @a void b(@c var d, final e, A f, void g(h), i(), [j = 1, @k A l]) => m;",
+    "c([this.d]) { }",
+    "abstract class A<B, C extends a.D<B>> extends E<B> with F, a.G implements H, I { }",
+    "class B { } class C extends D { } @a class E implements F { }",
+    "class G = a.H<b> with I, J implements K, L; abstract class M = N with O;",
+    "class P {",
+    "@a static b() { } static void c(); static get d => 1; static A get e { } static set f(g) { }",
+    "h(i) => j; get k; void set l(m);",
+    "var n = 1, o; final p = 2; static const A q = 3; a.B<c> r;",
+    "P(); @a P.b(this.c, [final A this.d = 1]) : e = 1, this.f = 2, super.g(3) { } P.h() : super();",
+    "@a int operator +(b) => 1; operator -(); operator -(b) { } operator *(b); operator ~/(b); operator %(b);",
+    "operator <(b); operator >(b); operator <=(b); operator >=(b); operator [](b); operator []=(b, c);",
+    "}",
+    "d() {",
+    "{ } ; a; var a, b = 1; final c = 2; const d = 3; A e; a.B<c> f = 4, g;",
+    "h() { } void i(j) => k; a.B<c> l() { }",
+    "if (a) b; if (a) b; else c; while (a) b; do a; while (b);",
+    "for (var a = 1, b; c; d, e) f; for (A a; ; ) b; for (a, b; ; c) d; for (;;) e;",
+    "for (var a in b) c; for (final A d in e) f; for (A g in h) i; for (j in k) l;",
+    "while (true) { if (a) break; else continue; } assert(a); return; return a;",
+    "try { } catch (a) { rethrow; } try { } on a.B<c> { } on D catch (e) { } finally { } try { } finally { }",
+    "}",
+    "e() {",
+    "a = b += c -= d *= e ~/= f %= 1; a.b = 1; a[0] = 1; this.a = super.b = super[0] = 1; a(b)[c].d = 1; throw a;",
+    "a(b ? c : d, b || c || d, b && c && d, b == c, b != c, b is C, b is! c.D<e>, b as C);",
+    "a(b < c, b > c, b <= c, b >= c, b + c - d, b * c % d ~/ e, -b, !b, ++b, --c.d, b++, c[0]--);",
+    "a(this, super.b, super[0], super + 1, null, true, false, 1, 0x1F, 'b' \"c$d${e}$this\" r'f');",
+    "a(new A(), new b.C<d, e<f>>(1), new A<b>.c(), new a.B.c(1, 2), (a), a.b.c, a[b][c], a(b)(c, d));",
+    "a(() { }, (b) => c, (b, [c = 1]) { return; }, ([b]) => c, [], [b], [b, c,], <b>[c], <b>[]);",
+    "a({}, {b: c}, {'b': c, d: e,}, <b, c>{}, <b, c>{d: e});",
+    "}",
+];
+
+#[test]
+fn each_form_stands_in_a_file(rt: HostRuntime) -> Result<(), Fail> {
+    let mut file = String::new(rt.alloc());
+    for line in EACH_FORM {
+        file.push_str(line)?;
+        file.push_str("\n")?;
+    }
+    let tree = parsed(rt.alloc(), 1, file.as_str())?;
+    assert_eq!(rt; tree.imports.len(), 3);
+    assert_eq!(rt; tree.declarations.len(), 22);
+    Ok(())
+}
+
 // ---- side rules, each from both sides
 
 #[test]
@@ -346,10 +401,10 @@ fn what_is_derived(rt: HostRuntime) -> Result<(), Fail> {
         "f() { try { } catch (e) { } try { } finally { } try { } on A { } }",
         "class A { f() => super.g(); h() => super[0]; i() => super + 1; j() => a + super * b; }",
         "class A { f(); get g; set h(i); operator +(j); A(); A.b(); }",
-        "class A { B A() => 1; C(); }",
+        "class A { B A() => 1; C(); void A() => 2; }",
         "class A { A() : x = (a + 1) {} A.b() : x = 1; }",
         "f() { a<b> c; }",
-        "f() { { } var a = { b: 1 }; }",
+        "f() { { } var a = { b: 1 }; [b]; <a>[b]; a; }",
         "f() { g(a) { } h(b) => c; i(j) + k; }",
         "f() => (a) => a; g() => (a) { };",
         "f() { get x; set y; operator z; }",
@@ -368,6 +423,7 @@ fn what_is_derived(rt: HostRuntime) -> Result<(), Fail> {
 fn what_is_not_derived(rt: HostRuntime) -> Result<(), Fail> {
     let files = [
         "f() { try { } }",
+        "f() { try { } else { } }",
         "f() { try { } catch (e) }",
         "class A { f() => super; }",
         "class A { f() => super == 1; }",
