@@ -15,6 +15,8 @@ import time
 
 TOP = os.path.dirname(os.path.dirname(os.path.abspath(__file__)))
 SIZE = 1_048_000
+# So many operators may stand between the brackets of a print: no token's load is above 200 then.
+LONGEST_SUM = 198
 
 
 def fill(statement):
@@ -22,15 +24,6 @@ def fill(statement):
     head, tail = "main(){\n", "}\n"
     count = (SIZE - len(head) - len(tail)) // len(statement)
     body = statement * count
-    blanks = SIZE - len(head) - len(body) - len(tail)
-    return head + body + " " * blanks + tail
-
-
-def one_sum(number):
-    """A program of SIZE bytes that prints one long sum."""
-    head, tail = "main(){print(" + number, ");}\n"
-    count = (SIZE - len(head) - len(tail)) // (len(number) + 1)
-    body = ("+" + number) * count
     blanks = SIZE - len(head) - len(body) - len(tail)
     return head + body + " " * blanks + tail
 
@@ -52,7 +45,7 @@ def all_forms():
 PROGRAMS = {
     "all forms": all_forms(),
     "short sums": fill("  print(1 + 20 + 300);\n"),
-    "one long sum": one_sum("1"),
+    "longest sums": fill("print(1" + "+1" * LONGEST_SUM + ");\n"),
     "prints alone": fill("print(7);"),
     "blanks": fill(" " * 64),
 }

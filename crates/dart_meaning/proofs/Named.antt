@@ -10,7 +10,7 @@ use Rattle.std.specs.Str.{bytes_eq}
 use Rattle.std.proofs.lemmas.List.{map-append, get_or_append_left, length-append}
 use Rattle.std.proofs.Math.Seq.{get_or-append_seam}
 use Rattle.std.proofs.lemmas.Slice.Eq.{bytes_eq-Decides}
-use Rattle.dart_meaning.specs.Program.{Names, is_one_of, may_name}
+use Rattle.dart_meaning.specs.Program.{Names, is_one_of}
 use Rattle.dart_meaning.specs.Meaning.{◌>>=◌}
 use Rattle.dart_meaning.specs.Scope.{Scope, no_names, place_of, find, declare, declared}
 
@@ -90,14 +90,13 @@ place_last name (other ∷ names) fresh = by (bytes_eq name other) fresh (λ e. 
   by true fresh rest = cc
   by false fresh rest = ap (option_map suc) (rest fresh)
 
--- each name may be declared, and was declared once
+-- each name was declared once
 pub record Proper (scope : Scope) : Type 0 where
   pub same : length scope.kinds ≡ length scope.names
-  pub fine : (k : ℕ) → k < length scope.names → may_name (get_or scope.names k []) ≡ true
   pub once : (k : ℕ) → k < length scope.names → place_of (get_or scope.names k []) scope.names ≡ Some k
 
 pub proper_none : Proper no_names
-proper_none = record { same = refl; fine = λ k lt. absurd (omega (arith, lt)); once = λ k lt. absurd (omega (arith, lt)) }
+proper_none = record { same = refl; once = λ k lt. absurd (omega (arith, lt)) }
 
 below_or_last : (k n : ℕ) → k < n + 1 → (k < n) ⊎ (k ≡ n)
 below_or_last zero zero lt = inr refl
@@ -105,13 +104,9 @@ below_or_last zero (suc n) lt = inl (omega arith)
 below_or_last (suc k) zero lt = absurd (omega (arith, lt))
 below_or_last (suc k) (suc n) lt = elim (below_or_last k n (omega (arith, lt))) [ inl l ↦ inl (omega (arith, l)) | inr e ↦ inr (ap suc e) ]
 
-proper_grown : (scope : Scope) (name : List ℕ) (is_text : Bool) → Proper scope → may_name name ≡ true → is_one_of name scope.names ≡ false → Proper (record { names = scope.names ++ name ∷ []; kinds = scope.kinds ++ is_text ∷ [] })
-proper_grown scope name is_text p may fresh = record {
+proper_grown : (scope : Scope) (name : List ℕ) (is_text : Bool) → Proper scope → is_one_of name scope.names ≡ false → Proper (record { names = scope.names ++ name ∷ []; kinds = scope.kinds ++ is_text ∷ [] })
+proper_grown scope name is_text p fresh = record {
   same = length-append scope.kinds (is_text ∷ []) ∙ ap (λ n. n + 1) p.same ∙ sym (length-append scope.names (name ∷ []));
-  fine = λ k lt. elim (below_or_last k (length scope.names) (subst (λ n. k < n) (length-append scope.names (name ∷ [])) lt)) [
-    | inl l ↦ ap may_name (get_or_append_left scope.names (name ∷ []) [] k l) ∙ p.fine k l
-    | inr e ↦ ap may_name (ap (λ k. get_or (scope.names ++ name ∷ []) k []) e ∙ get_or-append_seam scope.names name [] []) ∙ may
-  ];
   once = λ k lt. elim (below_or_last k (length scope.names) (subst (λ n. k < n) (length-append scope.names (name ∷ [])) lt)) [
     | inl l ↦ ap (λ x. place_of x (scope.names ++ name ∷ [])) (get_or_append_left scope.names (name ∷ []) [] k l) ∙ place_front (get_or scope.names k []) scope.names (name ∷ []) k (p.once k l)
     | inr e ↦ ap (λ x. place_of x (scope.names ++ name ∷ [])) (ap (λ k. get_or (scope.names ++ name ∷ []) k []) e ∙ get_or-append_seam scope.names name [] []) ∙ place_last name scope.names fresh ∙ ap Some (sym e)
@@ -134,8 +129,8 @@ declares scope after name is_text e = by (is_one_of name scope.names) refl e whe
   by true is e = cc
   by false is e = record { fresh = is; is = cc }
 
-pub proper_after : (scope after : Scope) (name : List ℕ) (is_text : Bool) → Proper scope → may_name name ≡ true → Declares scope after name is_text → Proper after
-proper_after scope after name is_text p may d = subst Proper (sym d.is) (proper_grown scope name is_text p may d.fresh)
+pub proper_after : (scope after : Scope) (name : List ℕ) (is_text : Bool) → Proper scope → Declares scope after name is_text → Proper after
+proper_after scope after name is_text p d = subst Proper (sym d.is) (proper_grown scope name is_text p d.fresh)
 
 -- a name is found at its place
 

@@ -2,261 +2,296 @@
 use Rattle.std.proofs.Common.{◌≡◌, ℕ, zero, suc, ◌<◌, ◌≤◌, Bool, true, false, cond, List, [], ◌∷◌, ◌++◌, length, Option, Some, None, Result, Ok, Err, refl, sym, ap, ◌∙◌, subst, arith, append_assoc}
 use Rattle.std.specs.Prelude.{codes, IfOk, MatchOption}
 use Rattle.std.proofs.lemmas.List.{append-nil}
+use Rattle.dart_syntax.specs.declared.words.Word.TheVariants as w
+use Rattle.dart_syntax.specs.declared.words.Sign.TheVariants as s
+use Rattle.dart_syntax.specs.declared.tokens.Form.TheVariants as f
+use Rattle.dart_syntax.specs.declared.tokens.Token.{Token}
 use Rattle.dart_meaning.specs.declared.program.Expression.{Expression}
 use Rattle.dart_meaning.specs.declared.program.Expression.TheVariants as expressions
 use Rattle.dart_meaning.specs.declared.program.Statement.{Statement}
 use Rattle.dart_meaning.specs.declared.program.Statement.TheVariants.{Print, Declare}
-use Rattle.dart_meaning.specs.declared.scan.Class.TheVariants.{Blank}
-use Rattle.dart_meaning.specs.Tokens.{Token, Word, Sign}
-use Rattle.dart_meaning.specs.Program.{Names, is_one_of, may_name, IsName, IsExpression, is_text, AreWellFormed, addends_tokens, expression_tokens, statements_tokens, program_tokens, IsProgram}
+use Rattle.dart_meaning.specs.Program.{Forms, forms_of, Names, is_one_of, may_name, IsExpression, is_text, AreWellFormed, addends_forms, expression_forms, statements_forms, program_forms, IsProgram}
 use Rattle.dart_meaning.specs.Meaning.{◌>>=◌}
 use Rattle.dart_meaning.specs.Scope.{Scope, no_names, declare}
-use Rattle.dart_meaning.specs.Scanner.{front, back, run, begins, word, sign}
-use Rattle.dart_meaning.specs.Reader.{expression, print_opening, print_closing, print_statement, declaration_opening, declaration, statement, opening, closed, statements, read}
-use Rattle.dart_meaning.proofs.Fronts.{front_back, front_all, back_at}
+use Rattle.dart_meaning.specs.Reader.{same_mark, sign, plus_or_minus, name, named, begins_declaration, var_word, expression, print_opening, print_closing, print_statement, declaration_opening, declaration, statement, opening, closed, statements, read}
 use Rattle.dart_meaning.proofs.Named.{Proper, proper_none, proper_after, declare_fresh, declares}
-use Rattle.dart_meaning.proofs.Taken.{IsDark, At, Takes, RunIs, takes_word, gives_word, takes_run, gives_run, run_word, takes_sign, gives_sign, no_sign, begins_at, dark_ends, after, either, some_same, enough_bytes}
-use Rattle.dart_meaning.proofs.Expressions.{operand_dark, factors_some, addends_some, takes_expression, gives_expression}
+use Rattle.dart_meaning.proofs.Steps.{some_same, after, either}
+use Rattle.dart_meaning.proofs.Taken.{takes_sign, gives_sign, takes_name, gives_name, takes_named, gives_named, gives_var}
+use Rattle.dart_meaning.proofs.Expressions.{Ends, factors_some, addends_some, takes_expression, gives_expression}
 
-expression_dark : (names : Names) (value : Expression) (more : List Token) → IsDark (expression_tokens names value more)
-expression_dark names (expressions.Text text) more = tt
-expression_dark names (expressions.Sum s) more = operand_dark names s.first.first _
+-- ---- what ends an expression
 
--- print ( value ) ;
+ends_paren : (more : Forms) → Ends (f.Sign s.CloseParen ∷ more)
+unfolding sign plus_or_minus same_mark
+ends_paren more = record { times = refl; addend = refl }
 
-print_found : (scope : Scope) (bytes a b c d rest : List ℕ) (value : Expression) (kind : Bool) → word (codes "print") bytes ≡ Some a → sign 40 a ≡ Some b → expression scope b ≡ Some (value, kind, c) → sign 41 c ≡ Some d → sign 59 d ≡ Some rest → print_statement scope bytes ≡ Some (Print value, scope, rest)
-unfolding print_statement print_opening print_closing
-print_found scope bytes a b c d rest value kind ea eb ec ed er = rw (ea, eb, ec, ed, er) refl
+ends_semicolon : (more : Forms) → Ends (f.Sign s.Semicolon ∷ more)
+unfolding sign plus_or_minus same_mark
+ends_semicolon more = record { times = refl; addend = refl }
 
-takes_print : (scope : Scope) (value : Expression) (more : List Token) (bytes : List ℕ) → Proper scope → IsExpression scope.kinds value → At (Word (codes "print") ∷ Sign 40 ∷ expression_tokens scope.names value (Sign 41 ∷ Sign 59 ∷ more)) bytes → IsDark more → Takes (print_statement scope bytes) (λ rest. (Print value, scope, rest)) more
-takes_print scope value more bytes p fine at dark =
-    let a = takes_word (codes "print") _ bytes at refl in
-    let b = takes_sign 40 _ a.rest a.more (expression_dark scope.names value _) in
-    let c = takes_expression scope value _ b.rest p fine b.more (refl, refl, refl, refl) in
-    let d = takes_sign 41 _ c.rest c.more refl in
-    let e = takes_sign 59 more d.rest d.more dark in
-    record { rest = e.rest; is = print_found scope bytes a.rest b.rest c.rest d.rest e.rest value _ a.is b.is c.is d.is e.is; more = e.more }
+-- ---- print ( value ) ;
+
+print_opened : (fs a b : Forms) → named (codes "print") fs ≡ Some a → sign s.OpenParen a ≡ Some b → print_opening fs ≡ Some b
+unfolding print_opening
+print_opened fs a b ea eb = rw (ea, eb) refl
+
+print_closed : (fs a b : Forms) → sign s.CloseParen fs ≡ Some a → sign s.Semicolon a ≡ Some b → print_closing fs ≡ Some b
+unfolding print_closing
+print_closed fs a b ea eb = rw (ea, eb) refl
+
+print_found : (scope : Scope) (fs a b rest : Forms) (value : Expression) (kind : Bool) → print_opening fs ≡ Some a → expression scope a ≡ Some (value, kind, b) → print_closing b ≡ Some rest → print_statement scope fs ≡ Some (Print value, scope, rest)
+unfolding print_statement
+print_found scope fs a b rest value kind ea eb er = rw (ea, eb, er) refl
+
+takes_print : (scope : Scope) (value : Expression) (more : Forms) → Proper scope → IsExpression scope.kinds value → print_statement scope (f.Name (codes "print") ∷ f.Sign s.OpenParen ∷ expression_forms scope.names value (f.Sign s.CloseParen ∷ f.Sign s.Semicolon ∷ more)) ≡ Some (Print value, scope, more)
+takes_print scope value more p fine =
+    let close : Forms = f.Sign s.CloseParen ∷ f.Sign s.Semicolon ∷ more in
+    let inner : Forms = expression_forms scope.names value close in
+    print_found scope (f.Name (codes "print") ∷ f.Sign s.OpenParen ∷ inner) inner close more value (is_text scope.kinds value)
+    (print_opened _ (f.Sign s.OpenParen ∷ inner) inner (takes_named (codes "print") (f.Sign s.OpenParen ∷ inner)) (takes_sign s.OpenParen inner))
+    (takes_expression scope value close p fine (ends_paren (f.Sign s.Semicolon ∷ more)))
+    (print_closed close (f.Sign s.Semicolon ∷ more) more (takes_sign s.CloseParen (f.Sign s.Semicolon ∷ more)) (takes_sign s.Semicolon more))
+
+gives_print_opening : (fs rest : Forms) → print_opening fs ≡ Some rest → fs ≡ f.Name (codes "print") ∷ f.Sign s.OpenParen ∷ rest
+unfolding print_opening
+gives_print_opening fs rest e =
+    after (named (codes "print") fs) _ rest _ e (λ a ea e.
+    gives_named (codes "print") fs a ea ∙ ap (λ (l : Forms). f.Name (codes "print") ∷ l) (gives_sign s.OpenParen a rest e))
+
+gives_print_closing : (fs rest : Forms) → print_closing fs ≡ Some rest → fs ≡ f.Sign s.CloseParen ∷ f.Sign s.Semicolon ∷ rest
+unfolding print_closing
+gives_print_closing fs rest e =
+    after (sign s.CloseParen fs) _ rest _ e (λ a ea e.
+    gives_sign s.CloseParen fs a ea ∙ ap (λ (l : Forms). f.Sign s.CloseParen ∷ l) (gives_sign s.Semicolon a rest e))
 
 -- what a statement that was read says
-record GivesStatement (scope : Scope) (got : Statement × Scope × List ℕ) (bytes : List ℕ) : Type 0 where
+record GivesStatement (scope : Scope) (got : Statement × Scope × Forms) (fs : Forms) : Type 0 where
   proper : Proper got.1
-  are : (program : List Statement) → At (statements_tokens got.1.names program) got.2 → At (statements_tokens scope.names (got.0 ∷ program)) bytes
+  is : (program : List Statement) → got.2 ≡ statements_forms got.1.names program → fs ≡ statements_forms scope.names (got.0 ∷ program)
   fine : (program : List Statement) → AreWellFormed got.1.kinds got.1.names program → AreWellFormed scope.kinds scope.names (got.0 ∷ program)
 
-gives_print : (scope : Scope) (got : Statement × Scope × List ℕ) (bytes : List ℕ) → Proper scope → print_statement scope bytes ≡ Some got → GivesStatement scope got bytes
-unfolding print_statement print_opening print_closing
-gives_print scope got bytes p e =
-    after (print_opening bytes) _ got _ e (λ b eb e.
-    after (expression scope b) _ got _ e (λ value ev e.
+gives_print : (scope : Scope) (got : Statement × Scope × Forms) (fs : Forms) → Proper scope → print_statement scope fs ≡ Some got → GivesStatement scope got fs
+unfolding print_statement
+gives_print scope got fs p e =
+    after (print_opening fs) _ got _ e (λ a ea e.
+    after (expression scope a) _ got _ e (λ value ev e.
     after (print_closing value.2) _ got _ e (λ rest er e.
-    let g = gives_expression scope value b p ev in
-    let it : GivesStatement scope (Print value.0, scope, rest) bytes = record {
+    let g = gives_expression scope value a p ev in
+    let it : GivesStatement scope (Print value.0, scope, rest) fs = record {
       proper = p;
-      are = λ program at.
-          after (word (codes "print") bytes) _ b _ eb (λ a ea eb.
-          after (sign 41 value.2) _ rest _ er (λ c ec er.
-          gives_word (codes "print") _ bytes a ea (gives_sign 40 _ a b eb (g.are _ (gives_sign 41 _ value.2 c ec (gives_sign 59 _ c rest er at))))));
+      is = λ program same.
+          gives_print_opening fs a ea
+          ∙ ap (λ (l : Forms). f.Name (codes "print") ∷ f.Sign s.OpenParen ∷ l) (g.is ∙ ap (expression_forms scope.names value.0) (gives_print_closing value.2 rest er ∙ ap (λ (l : Forms). f.Sign s.CloseParen ∷ f.Sign s.Semicolon ∷ l) same));
       fine = λ program well. (g.fine, well);
     } in
-    subst (λ (g : Statement × Scope × List ℕ). GivesStatement scope g bytes) (some_same (Print value.0, scope, rest) got e) it)))
+    subst (λ (g : Statement × Scope × Forms). GivesStatement scope g fs) (some_same (Print value.0, scope, rest) got e) it)))
 
--- var name = value ;
+-- ---- var name = value ;
 
-opening_found : (bytes a b c name : List ℕ) → word (codes "var") bytes ≡ Some a → run a ≡ Some (name, b) → may_name name ≡ true → sign 61 b ≡ Some c → declaration_opening bytes ≡ Some (name, c)
+var_taken : (more : Forms) → var_word (f.Word w.Var ∷ more) ≡ Some more
+unfolding var_word
+var_taken more = refl
+
+opening_found : (fs a b c : Forms) (text : List ℕ) → var_word fs ≡ Some a → name a ≡ Some (text, b) → may_name text ≡ true → sign s.Assign b ≡ Some c → declaration_opening fs ≡ Some (text, c)
 unfolding declaration_opening
-opening_found bytes a b c name ea eb may ec = rw (ea, eb, may, ec) refl
+opening_found fs a b c text ea eb may ec = rw (ea, eb, may, ec) refl
 
-declaration_found : (scope after_it : Scope) (bytes a b rest name : List ℕ) (value : Expression) (kind : Bool) → declaration_opening bytes ≡ Some (name, a) → expression scope a ≡ Some (value, kind, b) → sign 59 b ≡ Some rest → declare name kind scope ≡ Some after_it → declaration scope bytes ≡ Some (Declare name value, after_it, rest)
+declaration_found : (scope behind : Scope) (fs a b rest : Forms) (text : List ℕ) (value : Expression) (kind : Bool) → declaration_opening fs ≡ Some (text, a) → expression scope a ≡ Some (value, kind, b) → sign s.Semicolon b ≡ Some rest → declare text kind scope ≡ Some behind → declaration scope fs ≡ Some (Declare text value, behind, rest)
 unfolding declaration
-declaration_found scope after_it bytes a b rest name value kind ea eb er ed = rw (ea, eb, er, ed) refl
+declaration_found scope behind fs a b rest text value kind ea eb er ed = rw (ea, eb, er, ed) refl
 
-takes_declaration : (scope : Scope) (name : List ℕ) (value : Expression) (more : List Token) (bytes : List ℕ) → Proper scope → may_name name ≡ true → is_one_of name scope.names ≡ false → IsExpression scope.kinds value → At (Word (codes "var") ∷ Word name ∷ Sign 61 ∷ expression_tokens scope.names value (Sign 59 ∷ more)) bytes → IsDark more → Takes (declaration scope bytes) (λ rest. (Declare name value, record { names = scope.names ++ name ∷ []; kinds = scope.kinds ++ is_text scope.kinds value ∷ [] }, rest)) more
-takes_declaration scope name value more bytes p may fresh fine at dark =
-    let a = takes_word (codes "var") _ bytes at tt in
-    let b = takes_run name _ a.rest a.more refl in
-    let c = takes_sign 61 _ b.rest b.more (expression_dark scope.names value _) in
-    let d = takes_expression scope value _ c.rest p fine c.more (refl, refl, refl, refl) in
-    let e = takes_sign 59 more d.rest d.more dark in
-    record { rest = e.rest; is = declaration_found scope _ bytes c.rest d.rest e.rest name value _ (opening_found bytes a.rest b.rest c.rest name a.is b.is may c.is) d.is e.is (declare_fresh scope name _ fresh); more = e.more }
+takes_declaration : (scope : Scope) (text : List ℕ) (value : Expression) (more : Forms) → Proper scope → may_name text ≡ true → is_one_of text scope.names ≡ false → IsExpression scope.kinds value → declaration scope (f.Word w.Var ∷ f.Name text ∷ f.Sign s.Assign ∷ expression_forms scope.names value (f.Sign s.Semicolon ∷ more)) ≡ Some (Declare text value, record { names = scope.names ++ text ∷ []; kinds = scope.kinds ++ is_text scope.kinds value ∷ [] }, more)
+takes_declaration scope text value more p may fresh fine =
+    let close : Forms = f.Sign s.Semicolon ∷ more in
+    let inner : Forms = expression_forms scope.names value close in
+    let named : Forms = f.Name text ∷ f.Sign s.Assign ∷ inner in
+    declaration_found scope _ (f.Word w.Var ∷ named) inner close more text value (is_text scope.kinds value)
+    (opening_found (f.Word w.Var ∷ named) named (f.Sign s.Assign ∷ inner) inner text (var_taken named) (takes_name text (f.Sign s.Assign ∷ inner)) may (takes_sign s.Assign inner))
+    (takes_expression scope value close p fine (ends_semicolon more))
+    (takes_sign s.Semicolon more)
+    (declare_fresh scope text (is_text scope.kinds value) fresh)
 
-record GivesOpening (got : List ℕ × List ℕ) (bytes : List ℕ) : Type 0 where
-  name : IsName got.0
-  are : (more : List Token) → At more got.1 → At (Word (codes "var") ∷ Word got.0 ∷ Sign 61 ∷ more) bytes
+record GivesOpening (got : List ℕ × Forms) (fs : Forms) : Type 0 where
+  may : may_name got.0 ≡ true
+  is : fs ≡ f.Word w.Var ∷ f.Name got.0 ∷ f.Sign s.Assign ∷ got.1
 
-name_opening : (r got : List ℕ × List ℕ) (a bytes : List ℕ) (t : Bool) → may_name r.0 ≡ t → word (codes "var") bytes ≡ Some a → RunIs a r.0 r.1 → cond t (sign 61 r.1 >>= (λ rest. Some (r.0, rest))) None ≡ Some got → GivesOpening got bytes
-name_opening r got a bytes false may ea run e = cc
-name_opening r got a bytes true may ea run e =
-    after (sign 61 r.1) _ got _ e (λ rest er e.
-    let it : GivesOpening (r.0, rest) bytes = record { name = (run.some, may); are = λ more at. gives_word (codes "var") _ bytes a ea (run_word r.0 _ a r.1 run (gives_sign 61 more r.1 rest er at)) } in
-    subst (λ (g : List ℕ × List ℕ). GivesOpening g bytes) (some_same (r.0, rest) got e) it)
+name_opening : (n got : List ℕ × Forms) (fs : Forms) (t : Bool) → may_name n.0 ≡ t → fs ≡ f.Word w.Var ∷ f.Name n.0 ∷ n.1 → cond t (sign s.Assign n.1 >>= (λ rest. Some (n.0, rest))) None ≡ Some got → GivesOpening got fs
+name_opening n got fs false may is e = cc
+name_opening n got fs true may is e =
+    after (sign s.Assign n.1) _ got _ e (λ rest er e.
+    let it : GivesOpening (n.0, rest) fs = record { may = may; is = is ∙ ap (λ (l : Forms). f.Word w.Var ∷ f.Name n.0 ∷ l) (gives_sign s.Assign n.1 rest er) } in
+    subst (λ (g : List ℕ × Forms). GivesOpening g fs) (some_same (n.0, rest) got e) it)
 
-gives_opening : (got : List ℕ × List ℕ) (bytes : List ℕ) → declaration_opening bytes ≡ Some got → GivesOpening got bytes
+gives_opening : (got : List ℕ × Forms) (fs : Forms) → declaration_opening fs ≡ Some got → GivesOpening got fs
 unfolding declaration_opening
-gives_opening got bytes e =
-    after (word (codes "var") bytes) _ got _ e (λ a ea e.
-    after (run a) _ got _ e (λ r er e.
-    name_opening r got a bytes (may_name r.0) refl ea (gives_run r.0 a r.1 er) e))
+gives_opening got fs e =
+    after (var_word fs) _ got _ e (λ a ea e.
+    after (name a) _ got _ e (λ n en e.
+    name_opening n got fs (may_name n.0) refl (gives_var fs a ea ∙ ap (λ (l : Forms). f.Word w.Var ∷ l) (gives_name n a en)) e))
 
-gives_declaration : (scope : Scope) (got : Statement × Scope × List ℕ) (bytes : List ℕ) → Proper scope → declaration scope bytes ≡ Some got → GivesStatement scope got bytes
+gives_declaration : (scope : Scope) (got : Statement × Scope × Forms) (fs : Forms) → Proper scope → declaration scope fs ≡ Some got → GivesStatement scope got fs
 unfolding declaration
-gives_declaration scope got bytes p e =
-    after (declaration_opening bytes) _ got _ e (λ name en e.
-    after (expression scope name.1) _ got _ e (λ value ev e.
-    after (sign 59 value.2) _ got _ e (λ rest er e.
-    after (declare name.0 value.1 scope) _ got _ e (λ after_it ed e.
-    let n = gives_opening name bytes en in
-    let g = gives_expression scope value name.1 p ev in
-    let d = declares scope after_it name.0 value.1 ed in
-    let same : after_it ≡ record { names = scope.names ++ name.0 ∷ []; kinds = scope.kinds ++ is_text scope.kinds value.0 ∷ [] } =
-    d.is ∙ ap (λ k. record { names = scope.names ++ name.0 ∷ []; kinds = scope.kinds ++ k ∷ [] }) (sym g.kind) in
-    let it : GivesStatement scope (Declare name.0 value.0, after_it, rest) bytes = record {
-      proper = proper_after scope after_it name.0 value.1 p n.name.1 d;
-      are = λ program at. n.are _ (g.are _ (gives_sign 59 _ value.2 rest er (subst (λ (s : Scope). At (statements_tokens s.names program) rest) same at)));
-      fine = λ program well. (n.name, d.fresh, g.fine, subst (λ (s : Scope). AreWellFormed s.kinds s.names program) same well);
+gives_declaration scope got fs p e =
+    after (declaration_opening fs) _ got _ e (λ n en e.
+    after (expression scope n.1) _ got _ e (λ value ev e.
+    after (sign s.Semicolon value.2) _ got _ e (λ rest er e.
+    after (declare n.0 value.1 scope) _ got _ e (λ behind ed e.
+    let o = gives_opening n fs en in
+    let g = gives_expression scope value n.1 p ev in
+    let d = declares scope behind n.0 value.1 ed in
+    let same : behind ≡ record { names = scope.names ++ n.0 ∷ []; kinds = scope.kinds ++ is_text scope.kinds value.0 ∷ [] } =
+    d.is ∙ ap (λ k. record { names = scope.names ++ n.0 ∷ []; kinds = scope.kinds ++ k ∷ [] }) (sym g.kind) in
+    let it : GivesStatement scope (Declare n.0 value.0, behind, rest) fs = record {
+      proper = proper_after scope behind n.0 value.1 p d;
+      is = λ program are.
+          o.is
+          ∙ ap (λ (l : Forms). f.Word w.Var ∷ f.Name n.0 ∷ f.Sign s.Assign ∷ l) (g.is ∙ ap (expression_forms scope.names value.0) (gives_sign s.Semicolon value.2 rest er ∙ ap (λ (l : Forms). f.Sign s.Semicolon ∷ l) (are ∙ ap (λ (b : Scope). statements_forms b.names program) same)));
+      fine = λ program well. (o.may, d.fresh, g.fine, subst (λ (b : Scope). AreWellFormed b.kinds b.names program) same well);
     } in
-    subst (λ (g : Statement × Scope × List ℕ). GivesStatement scope g bytes) (some_same (Declare name.0 value.0, after_it, rest) got e) it))))
+    subst (λ (g : Statement × Scope × Forms). GivesStatement scope g fs) (some_same (Declare n.0 value.0, behind, rest) got e) it))))
 
--- A statement.
+-- ---- statements
 
-is_print : (scope : Scope) (more : List Token) (bytes : List ℕ) → At (Word (codes "print") ∷ more) bytes → statement scope bytes ≡ print_statement scope bytes
+is_print : (scope : Scope) (text : List ℕ) (more : Forms) → statement scope (f.Name text ∷ more) ≡ print_statement scope (f.Name text ∷ more)
 unfolding statement
-is_print scope more bytes at = ap (λ t. cond t (print_statement scope bytes) (declaration scope bytes)) (begins_at (codes "print") (codes "print") more bytes at)
+is_print scope text more = refl
 
-is_declaration : (scope : Scope) (more : List Token) (bytes : List ℕ) → At (Word (codes "var") ∷ more) bytes → statement scope bytes ≡ declaration scope bytes
+is_declaration : (scope : Scope) (more : Forms) → statement scope (f.Word w.Var ∷ more) ≡ declaration scope (f.Word w.Var ∷ more)
 unfolding statement
-is_declaration scope more bytes at = ap (λ t. cond t (print_statement scope bytes) (declaration scope bytes)) (begins_at (codes "var") (codes "print") more bytes at)
+is_declaration scope more = refl
 
-gives_statement : (scope : Scope) (got : Statement × Scope × List ℕ) (bytes : List ℕ) → Proper scope → statement scope bytes ≡ Some got → GivesStatement scope got bytes
+gives_statement : (scope : Scope) (got : Statement × Scope × Forms) (fs : Forms) → Proper scope → statement scope fs ≡ Some got → GivesStatement scope got fs
 unfolding statement
-gives_statement scope got bytes p e = by (begins (codes "print") bytes) e where
-  by : (t : Bool) → cond t (print_statement scope bytes) (declaration scope bytes) ≡ Some got → GivesStatement scope got bytes
-  by true e = gives_print scope got bytes p e
-  by false e = gives_declaration scope got bytes p e
+gives_statement scope got fs p e = by (begins_declaration fs) e where
+  by : (t : Bool) → cond t (declaration scope fs) (print_statement scope fs) ≡ Some got → GivesStatement scope got fs
+  by true e = gives_declaration scope got fs p e
+  by false e = gives_print scope got fs p e
 
--- All statements.
-
-statements_dark : (names : Names) (program : List Statement) → IsDark (statements_tokens names program)
-statements_dark names [] = refl
-statements_dark names (Print value ∷ program) = tt
-statements_dark names (Declare name value ∷ program) = tt
-
-expression_long : (names : Names) (value : Expression) (more : List Token) → length more ≤ length (expression_tokens names value more)
+expression_long : (names : Names) (value : Expression) (more : Forms) → length more ≤ length (expression_forms names value more)
 expression_long names (expressions.Text text) more = omega arith
-expression_long names (expressions.Sum s) more = omega (arith, factors_some names s.first.rest (addends_tokens names s.rest more), addends_some names s.rest more)
+expression_long names (expressions.Sum x) more = omega (arith, factors_some names x.first.rest (addends_forms names x.rest more), addends_some names x.rest more)
 
-statements_long : (names : Names) (program : List Statement) → length program < length (statements_tokens names program)
+statements_long : (names : Names) (program : List Statement) → length program < length (statements_forms names program)
 statements_long names [] = omega arith
-statements_long names (Print value ∷ program) = omega (arith, expression_long names value (Sign 41 ∷ Sign 59 ∷ statements_tokens names program), statements_long names program)
-statements_long names (Declare name value ∷ program) = omega (arith, expression_long names value (Sign 59 ∷ statements_tokens (names ++ name ∷ []) program), statements_long (names ++ name ∷ []) program)
+statements_long names (Print value ∷ program) = omega (arith, expression_long names value (f.Sign s.CloseParen ∷ f.Sign s.Semicolon ∷ statements_forms names program), statements_long names program)
+statements_long names (Declare name value ∷ program) = omega (arith, expression_long names value (f.Sign s.Semicolon ∷ statements_forms (names ++ name ∷ []) program), statements_long (names ++ name ∷ []) program)
 
-last : (turns : ℕ) (scope : Scope) (done : List Statement) (bytes rest : List ℕ) → sign 125 bytes ≡ Some rest → rest ≡ [] → statements (suc turns) scope done bytes ≡ Some done
+last : (turns : ℕ) (scope : Scope) (done : List Statement) → statements (suc turns) scope done (f.Sign s.CloseBrace ∷ []) ≡ Some done
 unfolding statements
-last turns scope done bytes rest e none = rw e (ap (closed done) none)
+last turns scope done = rw (takes_sign s.CloseBrace []) refl
 
-next : (turns : ℕ) (scope after_it : Scope) (done : List Statement) (bytes rest : List ℕ) (s : Statement) → sign 125 bytes ≡ None → statement scope bytes ≡ Some (s, after_it, rest) → statements (suc turns) scope done bytes ≡ statements turns after_it (done ++ s ∷ []) rest
+next : (turns : ℕ) (scope behind : Scope) (done : List Statement) (fs rest : Forms) (x : Statement) → sign s.CloseBrace fs ≡ None → statement scope fs ≡ Some (x, behind, rest) → statements (suc turns) scope done fs ≡ statements turns behind (done ++ x ∷ []) rest
 unfolding statements
-next turns scope after_it done bytes rest s none e = rw (none, e) refl
+next turns scope behind done fs rest x none e = rw (none, e) refl
 
-takes_statements : (program : List Statement) (scope : Scope) (turns : ℕ) (done : List Statement) (bytes : List ℕ) → Proper scope → AreWellFormed scope.kinds scope.names program → At (statements_tokens scope.names program) bytes → length program < turns → statements turns scope done bytes ≡ Some (done ++ program)
-takes_statements program scope zero done bytes p well at lt = absurd (let never : ⊥ = omega (arith, lt) in never)
-takes_statements [] scope (suc turns) done bytes p well at lt =
-    let a = takes_sign 125 [] bytes at tt in
-    last turns scope done bytes a.rest a.is a.more.it ∙ ap Some (sym (append-nil done))
-takes_statements (Print value ∷ program) scope (suc turns) done bytes p well at lt =
-    let s = takes_print scope value (statements_tokens scope.names program) bytes p well.0 at (statements_dark scope.names program) in
-    next turns scope scope done bytes s.rest (Print value) (no_sign 125 _ bytes at refl) (is_print scope _ bytes at ∙ s.is)
-    ∙ takes_statements program scope turns (done ++ Print value ∷ []) s.rest p well.1 s.more (omega (arith, lt))
+name_no_brace : (text : List ℕ) (more : Forms) → sign s.CloseBrace (f.Name text ∷ more) ≡ None
+unfolding sign
+name_no_brace text more = refl
+
+var_no_brace : (more : Forms) → sign s.CloseBrace (f.Word w.Var ∷ more) ≡ None
+unfolding sign
+var_no_brace more = refl
+
+takes_statements : (program : List Statement) (scope : Scope) (turns : ℕ) (done : List Statement) → Proper scope → AreWellFormed scope.kinds scope.names program → length program < turns → statements turns scope done (statements_forms scope.names program) ≡ Some (done ++ program)
+takes_statements program scope zero done p well lt = absurd (let never : ⊥ = omega (arith, lt) in never)
+takes_statements [] scope (suc turns) done p well lt = last turns scope done ∙ ap Some (sym (append-nil done))
+takes_statements (Print value ∷ program) scope (suc turns) done p well lt =
+    let rest : Forms = statements_forms scope.names program in
+    next turns scope scope done _ rest (Print value) (name_no_brace (codes "print") _) (is_print scope (codes "print") _ ∙ takes_print scope value rest p well.0)
+    ∙ takes_statements program scope turns (done ++ Print value ∷ []) p well.1 (omega (arith, lt))
     ∙ ap Some (append_assoc done (Print value ∷ []) program)
-takes_statements (Declare name value ∷ program) scope (suc turns) done bytes p well at lt =
+takes_statements (Declare name value ∷ program) scope (suc turns) done p well lt =
     let grown : Scope = record { names = scope.names ++ name ∷ []; kinds = scope.kinds ++ is_text scope.kinds value ∷ [] } in
-    let s = takes_declaration scope name value (statements_tokens (scope.names ++ name ∷ []) program) bytes p well.0.1 well.1 well.2 at (statements_dark (scope.names ++ name ∷ []) program) in
-    let q : Proper grown = proper_after scope grown name (is_text scope.kinds value) p well.0.1 (record { fresh = well.1; is = refl }) in
-    next turns scope grown done bytes s.rest (Declare name value) (no_sign 125 _ bytes at refl) (is_declaration scope _ bytes at ∙ s.is)
-    ∙ takes_statements program grown turns (done ++ Declare name value ∷ []) s.rest q well.3 s.more (omega (arith, lt))
+    let rest : Forms = statements_forms grown.names program in
+    let q : Proper grown = proper_after scope grown name (is_text scope.kinds value) p (record { fresh = well.1; is = refl }) in
+    next turns scope grown done _ rest (Declare name value) (var_no_brace _) (is_declaration scope _ ∙ takes_declaration scope name value rest p well.0 well.1 well.2)
+    ∙ takes_statements program grown turns (done ++ Declare name value ∷ []) q well.3 (omega (arith, lt))
     ∙ ap Some (append_assoc done (Declare name value ∷ []) program)
 
-record GivesStatements (scope : Scope) (done program : List Statement) (bytes : List ℕ) : Type 0 where
+record GivesStatements (scope : Scope) (done program : List Statement) (fs : Forms) : Type 0 where
   more : List Statement
   all : program ≡ done ++ more
   well : AreWellFormed scope.kinds scope.names more
-  are : At (statements_tokens scope.names more) bytes
+  is : fs ≡ statements_forms scope.names more
 
-closed_is : (done program : List Statement) (rest : List ℕ) → closed done rest ≡ Some program → (rest ≡ []) × (done ≡ program)
+closed_is : (done program : List Statement) (rest : Forms) → closed done rest ≡ Some program → (rest ≡ []) × (done ≡ program)
 closed_is done program [] e = (refl, cc)
-closed_is done program (b ∷ rest) e = cc
+closed_is done program (form ∷ rest) e = cc
 
-gives_statements : (turns : ℕ) (scope : Scope) (done program : List Statement) (bytes : List ℕ) → Proper scope → statements turns scope done bytes ≡ Some program → GivesStatements scope done program bytes
+gives_statements : (turns : ℕ) (scope : Scope) (done program : List Statement) (fs : Forms) → Proper scope → statements turns scope done fs ≡ Some program → GivesStatements scope done program fs
 unfolding statements
-gives_statements zero scope done program bytes p e = cc
-gives_statements (suc turns) scope done program bytes p e =
-    either (sign 125 bytes) _ _ program _ e
+gives_statements zero scope done program fs p e = cc
+gives_statements (suc turns) scope done program fs p e =
+    either (sign s.CloseBrace fs) _ _ program _ e
     (λ rest er e.
     let c = closed_is done program rest e in
-    record { more = []; all = sym c.1 ∙ sym (append-nil done); well = tt; are = gives_sign 125 [] bytes rest er (record { it = c.0 }) })
-    (λ none e. after (statement scope bytes) _ program _ e (λ s es e.
-    let g = gives_statement scope s bytes p es in
-    let r = gives_statements turns s.1 (done ++ s.0 ∷ []) program s.2 g.proper e in
-    record { more = s.0 ∷ r.more; all = r.all ∙ append_assoc done (s.0 ∷ []) r.more; well = g.fine r.more r.well; are = g.are r.more r.are }))
+    record { more = []; all = sym c.1 ∙ sym (append-nil done); well = tt; is = gives_sign s.CloseBrace fs rest er ∙ ap (λ (l : Forms). f.Sign s.CloseBrace ∷ l) c.0 })
+    (λ none e. after (statement scope fs) _ program _ e (λ x ex e.
+    let g = gives_statement scope x fs p ex in
+    let r = gives_statements turns x.1 (done ++ x.0 ∷ []) program x.2 g.proper e in
+    record { more = x.0 ∷ r.more; all = r.all ∙ append_assoc done (x.0 ∷ []) r.more; well = g.fine r.more r.well; is = g.is r.more r.is }))
 
--- main ( ) { statements }
+-- ---- main ( ) { statements }
 
-main_found : (bytes a b c rest : List ℕ) → word (codes "main") bytes ≡ Some a → sign 40 a ≡ Some b → sign 41 b ≡ Some c → sign 123 c ≡ Some rest → opening bytes ≡ Some rest
+main_found : (fs a b c rest : Forms) → named (codes "main") fs ≡ Some a → sign s.OpenParen a ≡ Some b → sign s.CloseParen b ≡ Some c → sign s.OpenBrace c ≡ Some rest → opening fs ≡ Some rest
 unfolding opening
-main_found bytes a b c rest ea eb ec er = rw (ea, eb, ec, er) refl
+main_found fs a b c rest ea eb ec er = rw (ea, eb, ec, er) refl
 
-takes_main : (more : List Token) (bytes : List ℕ) → At (Word (codes "main") ∷ Sign 40 ∷ Sign 41 ∷ Sign 123 ∷ more) bytes → IsDark more → Takes (opening bytes) (λ rest. rest) more
-takes_main more bytes at dark =
-    let a = takes_word (codes "main") _ bytes at refl in
-    let b = takes_sign 40 _ a.rest a.more refl in
-    let c = takes_sign 41 _ b.rest b.more refl in
-    let d = takes_sign 123 more c.rest c.more dark in
-    record { rest = d.rest; is = main_found bytes a.rest b.rest c.rest d.rest a.is b.is c.is d.is; more = d.more }
+takes_main : (more : Forms) → opening (f.Name (codes "main") ∷ f.Sign s.OpenParen ∷ f.Sign s.CloseParen ∷ f.Sign s.OpenBrace ∷ more) ≡ Some more
+takes_main more =
+    main_found _ (f.Sign s.OpenParen ∷ f.Sign s.CloseParen ∷ f.Sign s.OpenBrace ∷ more) (f.Sign s.CloseParen ∷ f.Sign s.OpenBrace ∷ more) (f.Sign s.OpenBrace ∷ more) more
+    (takes_named (codes "main") _) (takes_sign s.OpenParen _) (takes_sign s.CloseParen _) (takes_sign s.OpenBrace more)
 
-gives_main : (more : List Token) (bytes rest : List ℕ) → opening bytes ≡ Some rest → At more rest → At (Word (codes "main") ∷ Sign 40 ∷ Sign 41 ∷ Sign 123 ∷ more) bytes
+gives_main : (fs rest : Forms) → opening fs ≡ Some rest → fs ≡ f.Name (codes "main") ∷ f.Sign s.OpenParen ∷ f.Sign s.CloseParen ∷ f.Sign s.OpenBrace ∷ rest
 unfolding opening
-gives_main more bytes rest e at =
-    after (word (codes "main") bytes) _ rest _ e (λ a ea e.
-    after (sign 40 a) _ rest _ e (λ b eb e.
-    after (sign 41 b) _ rest _ e (λ c ec e.
-    gives_word (codes "main") _ bytes a ea (gives_sign 40 _ a b eb (gives_sign 41 _ b c ec (gives_sign 123 more c rest e at))))))
+gives_main fs rest e =
+    after (named (codes "main") fs) _ rest _ e (λ a ea e.
+    after (sign s.OpenParen a) _ rest _ e (λ b eb e.
+    after (sign s.CloseParen b) _ rest _ e (λ c ec e.
+    gives_named (codes "main") fs a ea
+    ∙ ap (λ (l : Forms). f.Name (codes "main") ∷ l) (gives_sign s.OpenParen a b eb
+    ∙ ap (λ (l : Forms). f.Sign s.OpenParen ∷ l) (gives_sign s.CloseParen b c ec
+    ∙ ap (λ (l : Forms). f.Sign s.CloseParen ∷ l) (gives_sign s.OpenBrace c rest e))))))
 
-opened : (bytes rest : List ℕ) → opening (back Blank bytes) ≡ Some rest → read bytes ≡ statements (length rest) no_names [] rest
+opened : (fs rest : Forms) → opening fs ≡ Some rest → read fs ≡ statements (length rest) no_names [] rest
 unfolding read
-opened bytes rest e = rw e refl
+opened fs rest e = rw e refl
 
-pub program_is_read : (bytes : List ℕ) (program : List Statement) → IsProgram bytes program → read bytes ≡ Some program
-program_is_read bytes program is =
-    let start : At (program_tokens program) is.rest = record { it = is.spelled } in
-    let skipped : back Blank bytes ≡ is.rest = ap (back Blank) is.whole ∙ back_at Blank is.gap is.rest is.blank (dark_ends (program_tokens program) is.rest tt is.spelled) in
-    let t = takes_main (statements_tokens [] program) is.rest start (statements_dark [] program) in
-    let few : length program < length t.rest = omega (arith, enough_bytes (statements_tokens [] program) t.rest t.more, statements_long [] program) in
-    opened bytes t.rest (ap opening skipped ∙ t.is) ∙ takes_statements program no_names (length t.rest) [] t.rest proper_none is.well_formed t.more few
+forms_are_read : (program : List Statement) → AreWellFormed [] [] program → read (program_forms program) ≡ Some program
+forms_are_read program well =
+    let rest : Forms = statements_forms [] program in
+    opened (program_forms program) rest (takes_main rest) ∙ takes_statements program no_names (length rest) [] proper_none well (statements_long [] program)
 
-pub read_is_program : (bytes : List ℕ) (program : List Statement) → read bytes ≡ Some program → IsProgram bytes program
+pub program_is_read : (tokens : List Token) (program : List Statement) → IsProgram tokens program → read (forms_of tokens) ≡ Some program
+program_is_read tokens program is = ap read is.spelled ∙ forms_are_read program is.well_formed
+
+pub read_is_program : (tokens : List Token) (program : List Statement) → read (forms_of tokens) ≡ Some program → IsProgram tokens program
 unfolding read
-read_is_program bytes program e =
-    after (opening (back Blank bytes)) _ program _ e (λ rest er e.
+read_is_program tokens program e =
+    after (opening (forms_of tokens)) _ program _ e (λ rest er e.
     let r = gives_statements (length rest) no_names [] program rest proper_none e in
-    let start : At (program_tokens r.more) (back Blank bytes) = gives_main (statements_tokens [] r.more) (back Blank bytes) rest er r.are in
-    let it : IsProgram bytes r.more = record { gap = front Blank bytes; rest = back Blank bytes; whole = front_back Blank bytes; blank = front_all Blank bytes; spelled = start.it; well_formed = r.well } in
-    subst (IsProgram bytes) (sym r.all) it)
+    let it : IsProgram tokens r.more = record {
+      spelled = gives_main (forms_of tokens) rest er ∙ ap (λ (l : Forms). f.Name (codes "main") ∷ f.Sign s.OpenParen ∷ f.Sign s.CloseParen ∷ f.Sign s.OpenBrace ∷ l) r.is;
+      well_formed = r.well;
+    } in
+    subst (IsProgram tokens) (sym r.all) it)
 
-pub one_program : (bytes : List ℕ) (program other : List Statement) → IsProgram bytes program → IsProgram bytes other → program ≡ other
-one_program bytes program other p q = some_same program other (sym (program_is_read bytes program p) ∙ program_is_read bytes other q)
+pub one_program : (tokens : List Token) (program other : List Statement) → IsProgram tokens program → IsProgram tokens other → program ≡ other
+one_program tokens program other p q = some_same program other (sym (program_is_read tokens program p) ∙ program_is_read tokens other q)
 
--- what the reader's answer says of the bytes
+-- ---- what the reader's answer says of the tokens
 
-exact_of : (bytes : List ℕ) (found : Option (List Statement)) → found ≡ read bytes → MatchOption found ((p : List Statement) → IsProgram bytes p → ⊥) (IsProgram bytes)
-exact_of bytes None e = λ p is. let both : None ≡ Some p = e ∙ program_is_read bytes p is in cc
-exact_of bytes (Some program) e = read_is_program bytes program (sym e)
+exact_of : (tokens : List Token) (found : Option (List Statement)) → found ≡ read (forms_of tokens) → MatchOption found ((p : List Statement) → IsProgram tokens p → ⊥) (IsProgram tokens)
+exact_of tokens None e = λ p is. let both : None ≡ Some p = e ∙ program_is_read tokens p is in cc
+exact_of tokens (Some program) e = read_is_program tokens program (sym e)
 
-pub exact_program : {E : Type 0} (bytes : List ℕ) (r : Result (Option (List Statement)) E) → IfOk r (λ found. found ≡ read bytes) → IfOk r (λ found. MatchOption found ((p : List Statement) → IsProgram bytes p → ⊥) (IsProgram bytes))
-exact_program bytes (Ok found) e = exact_of bytes found e
-exact_program bytes (Err fault) e = tt
+pub exact_program : {E : Type 0} (tokens : List Token) (r : Result (Option (List Statement)) E) → IfOk r (λ found. found ≡ read (forms_of tokens)) → IfOk r (λ found. MatchOption found ((p : List Statement) → IsProgram tokens p → ⊥) (IsProgram tokens))
+exact_program tokens (Ok found) e = exact_of tokens found e
+exact_program tokens (Err fault) e = tt
 
-pub only_program : {E : Type 0} (bytes : List ℕ) (r : Result (Option (List Statement)) E) → IfOk r (λ found. found ≡ read bytes) → IfOk r (λ found. (p : List Statement) → IsProgram bytes p → found ≡ Some p)
-only_program bytes (Ok found) e = λ p is. e ∙ program_is_read bytes p is
-only_program bytes (Err fault) e = tt
+pub only_program : {E : Type 0} (tokens : List Token) (r : Result (Option (List Statement)) E) → IfOk r (λ found. found ≡ read (forms_of tokens)) → IfOk r (λ found. (p : List Statement) → IsProgram tokens p → found ≡ Some p)
+only_program tokens (Ok found) e = λ p is. e ∙ program_is_read tokens p is
+only_program tokens (Err fault) e = tt
 
-pub found_program : (bytes : List ℕ) (found : Option (List Statement)) (p q : List Statement) → MatchOption found ((p : List Statement) → IsProgram bytes p → ⊥) (IsProgram bytes) → found ≡ Some p → q ≡ p → IsProgram bytes q
-found_program bytes found p q exact is same = subst (IsProgram bytes) (sym same) (subst (λ o. MatchOption o ((p : List Statement) → IsProgram bytes p → ⊥) (IsProgram bytes)) is exact)
+pub found_program : (tokens : List Token) (found : Option (List Statement)) (p q : List Statement) → MatchOption found ((p : List Statement) → IsProgram tokens p → ⊥) (IsProgram tokens) → found ≡ Some p → q ≡ p → IsProgram tokens q
+found_program tokens found p q exact is same = subst (IsProgram tokens) (sym same) (subst (λ o. MatchOption o ((p : List Statement) → IsProgram tokens p → ⊥) (IsProgram tokens)) is exact)

@@ -1,372 +1,161 @@
--- The scanner takes a token exactly where one stands.
-use Rattle.std.proofs.Common.{◌≡◌, ℕ, ◌<◌, ◌≤◌, Bool, true, false, cond, List, [], ◌∷◌, ◌++◌, length, Option, Some, None, inl, inr, refl, sym, ap, ◌∙◌, subst, arith}
-use Rattle.std.specs.Prelude.{◌==◌, ◌||◌}
+-- A token is taken exactly where it stands.
+use Rattle.std.proofs.Common.{◌≡◌, ℕ, true, cond, List, [], ◌∷◌, Some, None, refl, ap, ◌∙◌, subst, rules}
+use Rattle.std.specs.List.{list_all}
 use Rattle.std.specs.Str.{bytes_eq}
-use Rattle.std.specs.Str.Parse.{digits_value}
-use Rattle.std.specs.Option.{option_map_or}
-use Rattle.std.proofs.lemmas.Bool.{eqb-true, eq-eqb, or_cases, false_from_ne_true}
-use Rattle.std.proofs.lemmas.List.{length-append}
-use Rattle.dart_meaning.specs.declared.program.Sign.{Sign as Plusminus}
+use denote.Enum.Bare.{same_true, true_same}
+use Rattle.dart_syntax.specs.contracts.words.Sign.{the_type as marks}
+use Rattle.dart_syntax.specs.declared.words.Word.TheVariants as w
+use Rattle.dart_syntax.specs.declared.words.Sign.{Sign as Mark}
+use Rattle.dart_syntax.specs.declared.words.Sign.TheVariants as s
+use Rattle.dart_syntax.specs.declared.tokens.Form.{Form}
+use Rattle.dart_syntax.specs.declared.tokens.Form.TheVariants as f
+use Rattle.dart_meaning.specs.declared.program.Sign.{Sign}
 use Rattle.dart_meaning.specs.declared.program.Sign.TheVariants.{Plus, Minus}
-use Rattle.dart_meaning.specs.declared.scan.Class.{Class}
-use Rattle.dart_meaning.specs.declared.scan.Class.TheVariants.{Blank, Digit, Word as InWord, Text as InText}
-use Rattle.dart_meaning.specs.Tokens.{is_in, is_quote, AllIn, AreSome, EndsBefore, Token, Word, Number, Quoted, Sign, AreTokens}
-use Rattle.dart_meaning.specs.Program.{sign_byte}
-use Rattle.dart_meaning.specs.Meaning.{◌>>=◌}
-use Rattle.dart_meaning.specs.Scanner.{front, back, run_of, run, begins, word, sign, plus_or_minus, begins_text, quoted}
-use Rattle.dart_meaning.proofs.Fronts.{front_back, front_all, back_ends, front_at, back_at}
+use Rattle.dart_meaning.specs.Program.{Forms, IsText, is_plain, mark_of, text_forms}
+use Rattle.dart_meaning.specs.Reader.{same_mark, is_sign, sign, plus_or_minus, name_in, name, named, is_var, var_word, is_text_open, text_open, is_text_close, text_close, piece_in, piece, text}
 use Rattle.dart_meaning.proofs.Named.{same_bytes, bytes_same}
-use Rattle.dart_meaning.proofs.Digits.{chosen, digits_are_word}
+use Rattle.dart_meaning.proofs.Steps.{some_same, after, either, chosen}
 
--- The first token begins with no blank.
-abbrev pub IsDark : List Token → Type 0
-IsDark [] = Unit {0}
-IsDark (Word text ∷ tokens) = Unit {0}
-IsDark (Number n ∷ tokens) = Unit {0}
-IsDark (Quoted text ∷ tokens) = Unit {0}
-IsDark (Sign byte ∷ tokens) = is_in Blank byte ≡ false
+-- ---- a sign
 
--- The first token is there, and isn't this sign.
-abbrev pub NoSign : ℕ → List Token → Type 0
-NoSign byte [] = ⊥
-NoSign byte (Word text ∷ tokens) = is_in InWord byte ≡ false
-NoSign byte (Number n ∷ tokens) = is_in InWord byte ≡ false
-NoSign byte (Quoted text ∷ tokens) = is_quote byte ≡ false
-NoSign byte (Sign other ∷ tokens) = (other == byte) ≡ false
+is_sign-same : (x : Mark) → is_sign x (f.Sign x) ≡ true
+unfolding same_mark
+is_sign-same x = true_same marks x x refl
 
--- the same in a record, so that its arguments are found
-pub record At (tokens : List Token) (bytes : List ℕ) : Type 0 where
-  pub it : AreTokens tokens bytes
+is_sign-true : (x : Mark) (form : Form) → is_sign x form ≡ true → form ≡ f.Sign x
+unfolding same_mark
+is_sign-true x (f.Sign y) h = ap f.Sign (same_true marks (search rules) y x h)
+is_sign-true x _ h = absurd cc
 
--- what a scan has found, with the tokens that are behind it
-pub record Takes {A : Type 0} (found : Option A) (want : List ℕ → A) (tokens : List Token) : Type 0 where
-  pub rest : List ℕ
-  pub is : found ≡ Some (want rest)
-  pub more : At tokens rest
-
--- no byte of a word is blank, and no quote is
-
-is_32 : (b : ℕ) → (b == 32) ≡ true → is_in InWord b ≡ false
-is_32 b e = ap (is_in InWord) (eqb-true b 32 e)
-
-is_9 : (b : ℕ) → (b == 9) ≡ true → is_in InWord b ≡ false
-is_9 b e = ap (is_in InWord) (eqb-true b 9 e)
-
-is_13 : (b : ℕ) → (b == 13) ≡ true → is_in InWord b ≡ false
-is_13 b e = ap (is_in InWord) (eqb-true b 13 e)
-
-is_10 : (b : ℕ) → (b == 10) ≡ true → is_in InWord b ≡ false
-is_10 b e = ap (is_in InWord) (eqb-true b 10 e)
-
-blank_no_word : (b : ℕ) → is_in Blank b ≡ true → is_in InWord b ≡ false
-blank_no_word b e =
-    elim (or_cases (b == 32 || b == 9 || b == 13) (b == 10) e) [
-      | inl f ↦ elim (or_cases (b == 32 || b == 9) (b == 13) f) [
-        | inl g ↦ elim (or_cases (b == 32) (b == 9) g) [ inl h ↦ is_32 b h | inr h ↦ is_9 b h ]
-        | inr g ↦ is_13 b g
-      ]
-      | inr f ↦ is_10 b f
-    ]
-
-word_no_blank : (b : ℕ) → is_in InWord b ≡ true → is_in Blank b ≡ false
-word_no_blank b e = false_from_ne_true (is_in Blank b) (λ t. let f = blank_no_word b t in cc)
-
-word_ends_blank : (text rest : List ℕ) → AreSome InWord text → EndsBefore Blank (text ++ rest)
-word_ends_blank [] rest is = absurd is
-word_ends_blank (b ∷ text) rest is = word_no_blank b is.0
-
--- what holds of both quotes
-of_quotes : (P : ℕ → Type 0) (b : ℕ) → P 39 → P 34 → is_quote b ≡ true → P b
-of_quotes P b one two e = elim (or_cases (b == 39) (b == 34) e) [ inl f ↦ subst P (sym (eqb-true b 39 f)) one | inr f ↦ subst P (sym (eqb-true b 34 f)) two ]
-
-quote_no_blank : (b : ℕ) → is_quote b ≡ true → is_in Blank b ≡ false
-quote_no_blank b e = of_quotes (λ b. is_in Blank b ≡ false) b refl refl e
-
-quote_no_text : (b : ℕ) → is_quote b ≡ true → is_in InText b ≡ false
-quote_no_text b e = of_quotes (λ b. is_in InText b ≡ false) b refl refl e
-
-quote_no_word : (b : ℕ) → is_quote b ≡ true → is_in InWord b ≡ false
-quote_no_word b e = of_quotes (λ b. is_in InWord b ≡ false) b refl refl e
-
-pub dark_ends : (tokens : List Token) (bytes : List ℕ) → IsDark tokens → AreTokens tokens bytes → EndsBefore Blank bytes
-dark_ends [] bytes dark is = subst (EndsBefore Blank) (sym is) tt
-dark_ends (Word text ∷ tokens) bytes dark (gap, rest, is, some, ends, blank, more) = subst (EndsBefore Blank) (sym is) (word_ends_blank text (gap ++ rest) some)
-dark_ends (Number n ∷ tokens) bytes dark (digits, gap, rest, is, some, value, ends, blank, more) = subst (EndsBefore Blank) (sym is) (word_ends_blank digits (gap ++ rest) (digits_are_word digits some))
-dark_ends (Quoted text ∷ tokens) bytes dark (quote, gap, rest, is, quotes, all, blank, more) = subst (EndsBefore Blank) (sym is) (quote_no_blank quote quotes)
-dark_ends (Sign byte ∷ tokens) bytes dark (gap, rest, is, blank, more) = subst (EndsBefore Blank) (sym is) dark
-
--- a word or a number
-
-run_of_text : (text rest : List ℕ) → AreSome InWord text → run_of text rest ≡ Some (text, back Blank rest)
-run_of_text [] rest is = absurd is
-run_of_text (b ∷ text) rest is = refl
-
-all_of_some : (class : Class) (text : List ℕ) → AreSome class text → AllIn class text
-all_of_some class [] is = absurd is
-all_of_some class (b ∷ text) is = is
-
-run_at : (text gap rest : List ℕ) → AreSome InWord text → EndsBefore InWord (gap ++ rest) → AllIn Blank gap → EndsBefore Blank rest → run (text ++ (gap ++ rest)) ≡ Some (text, rest)
-unfolding run
-run_at text gap rest is ends blank dark =
-    let all = all_of_some InWord text is in
-    let f : front InWord (text ++ (gap ++ rest)) ≡ text = front_at InWord text (gap ++ rest) all ends in
-    let b : back InWord (text ++ (gap ++ rest)) ≡ gap ++ rest = back_at InWord text (gap ++ rest) all ends in
-    let g : back Blank (gap ++ rest) ≡ rest = back_at Blank gap rest blank dark in
-    ap (λ x. run_of x (back InWord (text ++ (gap ++ rest)))) f
-    ∙ ap (run_of text) b
-    ∙ run_of_text text (gap ++ rest) is
-    ∙ ap (λ r. Some (text, r)) g
-
-run_taken : (text : List ℕ) (tokens : List Token) (bytes : List ℕ) → IsDark tokens → AreTokens (Word text ∷ tokens) bytes → Takes (run bytes) (λ rest. (text, rest)) tokens
-run_taken text tokens bytes dark (gap, rest, is, some, ends, blank, more) = record {
-  rest = rest;
-  is = ap run is ∙ run_at text gap rest some ends blank (dark_ends tokens rest dark more);
-  more = record { it = more };
-}
-
-pub takes_run : (text : List ℕ) (tokens : List Token) (bytes : List ℕ) → At (Word text ∷ tokens) bytes → IsDark tokens → Takes (run bytes) (λ rest. (text, rest)) tokens
-takes_run text tokens bytes at dark = run_taken text tokens bytes dark at.it
-
-pub record TakesNumber (n : ℕ) (bytes : List ℕ) (tokens : List Token) : Type 0 where
-  pub digits : List ℕ
-  pub some : AreSome Digit digits
-  pub value : n ≡ digits_value 10 digits
-  pub taken : Takes (run bytes) (λ rest. (digits, rest)) tokens
-
-number_taken : (n : ℕ) (tokens : List Token) (bytes : List ℕ) → IsDark tokens → AreTokens (Number n ∷ tokens) bytes → TakesNumber n bytes tokens
-number_taken n tokens bytes dark (digits, gap, rest, is, some, value, ends, blank, more) = record {
-  digits = digits;
-  some = some;
-  value = value;
-  taken = run_taken digits tokens bytes dark (gap, rest, is, digits_are_word digits some, ends, blank, more);
-}
-
-pub takes_number : (n : ℕ) (tokens : List Token) (bytes : List ℕ) → At (Number n ∷ tokens) bytes → IsDark tokens → TakesNumber n bytes tokens
-takes_number n tokens bytes at dark = number_taken n tokens bytes dark at.it
-
-pub begins_at : (text other : List ℕ) (tokens : List Token) (bytes : List ℕ) → At (Word text ∷ tokens) bytes → begins other bytes ≡ bytes_eq text other
-unfolding begins
-begins_at text other tokens bytes at =
-    let gap = at.it.0 in
-    let rest = at.it.1 in
-    let is = at.it.2 in
-    let some = at.it.3 in
-    let ends = at.it.4 in
-    ap (λ x. bytes_eq (front InWord x) other) is
-    ∙ ap (λ x. bytes_eq x other) (front_at InWord text (gap ++ rest) (all_of_some InWord text some) ends)
-
-pub some_same : {A : Type 0} (x y : A) → Some x ≡ Some y → x ≡ y
-some_same x y e = cc
-
--- a word or a number that was read
-pub record RunIs (bytes text rest : List ℕ) : Type 0 where
-  pub gap : List ℕ
-  pub is : bytes ≡ text ++ (gap ++ rest)
-  pub some : AreSome InWord text
-  pub ends : EndsBefore InWord (gap ++ rest)
-  pub blank : AllIn Blank gap
-
-run_is : (found behind text : List ℕ) (bytes rest : List ℕ) → bytes ≡ found ++ behind → AllIn InWord found → EndsBefore InWord behind → run_of found behind ≡ Some (text, rest) → RunIs bytes text rest
-run_is [] behind text bytes rest is all ends e = cc
-run_is (b ∷ found) behind text bytes rest is all ends e =
-    let whole = b ∷ found in
-    let pair = some_same (whole, back Blank behind) (text, rest) e in
-    let same : whole ≡ text = ap (λ (p : List ℕ × List ℕ). p.0) pair in
-    let left : back Blank behind ≡ rest = ap (λ (p : List ℕ × List ℕ). p.1) pair in
-    let cut : behind ≡ front Blank behind ++ rest = front_back Blank behind ∙ ap (λ r. front Blank behind ++ r) left in
-    let it : RunIs bytes whole rest = record { gap = front Blank behind; is = is ∙ ap (λ r. whole ++ r) cut; some = all; ends = subst (EndsBefore InWord) cut ends; blank = front_all Blank behind } in
-    subst (λ t. RunIs bytes t rest) same it
-
-pub gives_run : (text bytes rest : List ℕ) → run bytes ≡ Some (text, rest) → RunIs bytes text rest
-unfolding run
-gives_run text bytes rest e = run_is (front InWord bytes) (back InWord bytes) text bytes rest (front_back InWord bytes) (front_all InWord bytes) (back_ends InWord bytes) e
-
-pub run_word : (text : List ℕ) (tokens : List Token) (bytes rest : List ℕ) → RunIs bytes text rest → At tokens rest → At (Word text ∷ tokens) bytes
-run_word text tokens bytes rest r more = record { it = (r.gap, rest, r.is, r.some, r.ends, r.blank, more.it) }
-
-pub run_number : (n : ℕ) (text : List ℕ) (tokens : List Token) (bytes rest : List ℕ) → RunIs bytes text rest → AreSome Digit text → n ≡ digits_value 10 text → At tokens rest → At (Number n ∷ tokens) bytes
-run_number n text tokens bytes rest r some value more = record { it = (text, r.gap, rest, r.is, some, value, r.ends, r.blank, more.it) }
-
--- what came of two steps, the first of which came to something
-pub after : {A B : Type 0} (first : Option A) (next : A → Option B) (got : B) (P : Type 0) → (first >>= next) ≡ Some got → ((a : A) → first ≡ Some a → next a ≡ Some got → P) → P
-after None next got P e k = cc
-after (Some a) next got P e k = k a refl e
-
--- what came of a step that another one follows only where it came to something
-pub either : {A B : Type 0} (first : Option A) (next : A → Option B) (other : Option B) (got : B) (P : Type 0) → option_map_or next first other ≡ Some got → ((a : A) → first ≡ Some a → next a ≡ Some got → P) → (first ≡ None → other ≡ Some got → P) → P
-either None next other got P e some none = none refl e
-either (Some a) next other got P e some none = some a refl e
-
--- a word
-
-pub takes_word : (text : List ℕ) (tokens : List Token) (bytes : List ℕ) → At (Word text ∷ tokens) bytes → IsDark tokens → Takes (word text bytes) (λ rest. rest) tokens
-unfolding word
-takes_word text tokens bytes at dark =
-    let t = takes_run text tokens bytes at dark in
-    record { rest = t.rest; is = rw (t.is, same_bytes text text refl) refl; more = t.more }
-
-pub gives_word : (text : List ℕ) (tokens : List Token) (bytes rest : List ℕ) → word text bytes ≡ Some rest → At tokens rest → At (Word text ∷ tokens) bytes
-unfolding word
-gives_word text tokens bytes rest e more =
-    after (run bytes) _ rest _ e (λ r er e.
-    let c = chosen (bytes_eq r.0 text) r.1 rest e in
-    let got : run bytes ≡ Some (text, rest) = er ∙ ap (λ x. Some (x, r.1)) (bytes_same r.0 text c.0) ∙ ap (λ x. Some (text, x)) c.1 in
-    run_word text tokens bytes rest (gives_run text bytes rest got) more)
-
--- a sign
-
-sign_at : (byte : ℕ) (bytes : List ℕ) → sign byte (byte ∷ bytes) ≡ Some (back Blank bytes)
+pub takes_sign : (x : Mark) (more : Forms) → sign x (f.Sign x ∷ more) ≡ Some more
 unfolding sign
-sign_at byte bytes = ap (λ t. cond t (Some (back Blank bytes)) None) (eq-eqb byte byte refl)
+takes_sign x more = ap (λ t. cond t (Some more) None) (is_sign-same x)
 
-sign_taken : (byte : ℕ) (tokens : List Token) (bytes : List ℕ) → IsDark tokens → AreTokens (Sign byte ∷ tokens) bytes → Takes (sign byte bytes) (λ rest. rest) tokens
-sign_taken byte tokens bytes dark (gap, rest, is, blank, more) = record {
-  rest = rest;
-  is = ap (sign byte) is ∙ sign_at byte (gap ++ rest) ∙ ap Some (back_at Blank gap rest blank (dark_ends tokens rest dark more));
-  more = record { it = more };
-}
-
-pub takes_sign : (byte : ℕ) (tokens : List Token) (bytes : List ℕ) → At (Sign byte ∷ tokens) bytes → IsDark tokens → Takes (sign byte bytes) (λ rest. rest) tokens
-takes_sign byte tokens bytes at dark = sign_taken byte tokens bytes dark at.it
-
-pub gives_sign : (byte : ℕ) (tokens : List Token) (bytes rest : List ℕ) → sign byte bytes ≡ Some rest → At tokens rest → At (Sign byte ∷ tokens) bytes
+pub gives_sign : (x : Mark) (fs rest : Forms) → sign x fs ≡ Some rest → fs ≡ f.Sign x ∷ rest
 unfolding sign
-gives_sign byte tokens [] rest e more = cc
-gives_sign byte tokens (b ∷ bytes) rest e more =
-    let c = chosen (b == byte) (back Blank bytes) rest e in
-    let cut : bytes ≡ front Blank bytes ++ rest = front_back Blank bytes ∙ ap (λ r. front Blank bytes ++ r) c.1 in
-    record { it = (front Blank bytes, rest, ap (λ x. x ∷ bytes) (eqb-true b byte c.0) ∙ ap (λ r. byte ∷ r) cut, front_all Blank bytes, more.it) }
+gives_sign x [] rest e = cc
+gives_sign x (form ∷ fs) rest e =
+    let c = chosen (is_sign x form) fs rest e in
+    ap (λ (g : Form). g ∷ fs) (is_sign-true x form c.0) ∙ ap (λ (l : Forms). f.Sign x ∷ l) c.1
 
--- no sign
+no_plus : (more : Forms) → sign s.Plus (f.Sign s.Minus ∷ more) ≡ None
+unfolding sign same_mark
+no_plus more = refl
 
-other_byte : (byte b : ℕ) (bytes : List ℕ) → (b == byte) ≡ false → sign byte (b ∷ bytes) ≡ None
-unfolding sign
-other_byte byte b bytes e = ap (λ t. cond t (Some (back Blank bytes)) None) e
-
-differ : (b byte : ℕ) (P : ℕ → Bool) → P b ≡ true → P byte ≡ false → (b == byte) ≡ false
-differ b byte P holds none = false_from_ne_true (b == byte) (λ t. let same : P b ≡ P byte = ap P (eqb-true b byte t) in cc)
-
-word_no_sign : (byte : ℕ) (text rest : List ℕ) → AreSome InWord text → is_in InWord byte ≡ false → sign byte (text ++ rest) ≡ None
-word_no_sign byte [] rest some never = absurd some
-word_no_sign byte (b ∷ text) rest some never = other_byte byte b (text ++ rest) (differ b byte (is_in InWord) some.0 never)
-
-no_sign_at : (byte : ℕ) (tokens : List Token) (bytes : List ℕ) → NoSign byte tokens → AreTokens tokens bytes → sign byte bytes ≡ None
-no_sign_at byte [] bytes never is = absurd never
-no_sign_at byte (Word text ∷ tokens) bytes never (gap, rest, is, some, ends, blank, more) = ap (sign byte) is ∙ word_no_sign byte text (gap ++ rest) some never
-no_sign_at byte (Number n ∷ tokens) bytes never (digits, gap, rest, is, some, value, ends, blank, more) = ap (sign byte) is ∙ word_no_sign byte digits (gap ++ rest) (digits_are_word digits some) never
-no_sign_at byte (Quoted text ∷ tokens) bytes never (quote, gap, rest, is, quotes, all, blank, more) = ap (sign byte) is ∙ other_byte byte quote _ (differ quote byte is_quote quotes never)
-no_sign_at byte (Sign other ∷ tokens) bytes never (gap, rest, is, blank, more) = ap (sign byte) is ∙ other_byte byte other _ never
-
-pub no_sign : (byte : ℕ) (tokens : List Token) (bytes : List ℕ) → At tokens bytes → NoSign byte tokens → sign byte bytes ≡ None
-no_sign byte tokens bytes at never = no_sign_at byte tokens bytes never at.it
-
--- + or -
-
-plus_found : (bytes rest : List ℕ) → sign 43 bytes ≡ Some rest → plus_or_minus bytes ≡ Some (Plus, rest)
+plus_found : (fs rest : Forms) → sign s.Plus fs ≡ Some rest → plus_or_minus fs ≡ Some (Plus, rest)
 unfolding plus_or_minus
-plus_found bytes rest e = rw e refl
+plus_found fs rest e = rw e refl
 
-minus_found : (bytes rest : List ℕ) → sign 43 bytes ≡ None → sign 45 bytes ≡ Some rest → plus_or_minus bytes ≡ Some (Minus, rest)
+minus_found : (fs rest : Forms) → sign s.Plus fs ≡ None → sign s.Minus fs ≡ Some rest → plus_or_minus fs ≡ Some (Minus, rest)
 unfolding plus_or_minus
-minus_found bytes rest none e = rw (none, e) refl
+minus_found fs rest none e = rw (none, e) refl
 
-pub no_plus_or_minus : (tokens : List Token) (bytes : List ℕ) → At tokens bytes → NoSign 43 tokens → NoSign 45 tokens → plus_or_minus bytes ≡ None
+pub takes_plus_or_minus : (m : Sign) (more : Forms) → plus_or_minus (f.Sign (mark_of m) ∷ more) ≡ Some (m, more)
+takes_plus_or_minus Plus more = plus_found (f.Sign s.Plus ∷ more) more (takes_sign s.Plus more)
+takes_plus_or_minus Minus more = minus_found (f.Sign s.Minus ∷ more) more (no_plus more) (takes_sign s.Minus more)
+
+pub gives_plus_or_minus : (got : Sign × Forms) (fs : Forms) → plus_or_minus fs ≡ Some got → fs ≡ f.Sign (mark_of got.0) ∷ got.1
 unfolding plus_or_minus
-no_plus_or_minus tokens bytes at plus minus = rw (no_sign 43 tokens bytes at plus, no_sign 45 tokens bytes at minus) refl
+gives_plus_or_minus got fs e =
+    either (sign s.Plus fs) _ _ got _ e
+    (λ rest er e. subst (λ (g : Sign × Forms). fs ≡ f.Sign (mark_of g.0) ∷ g.1) (some_same (Plus, rest) got e) (gives_sign s.Plus fs rest er))
+    (λ none e. after (sign s.Minus fs) _ got _ e (λ rest er e.
+    subst (λ (g : Sign × Forms). fs ≡ f.Sign (mark_of g.0) ∷ g.1) (some_same (Minus, rest) got e) (gives_sign s.Minus fs rest er)))
 
-pub takes_plus_or_minus : (s : Plusminus) (tokens : List Token) (bytes : List ℕ) → At (Sign (sign_byte s) ∷ tokens) bytes → IsDark tokens → Takes (plus_or_minus bytes) (λ rest. (s, rest)) tokens
-takes_plus_or_minus Plus tokens bytes at dark =
-    let t = takes_sign 43 tokens bytes at dark in
-    record { rest = t.rest; is = plus_found bytes t.rest t.is; more = t.more }
-takes_plus_or_minus Minus tokens bytes at dark =
-    let t = takes_sign 45 tokens bytes at dark in
-    record { rest = t.rest; is = minus_found bytes t.rest (no_sign 43 (Sign 45 ∷ tokens) bytes at refl) t.is; more = t.more }
+-- ---- a name
 
-pub gives_plus_or_minus : (got : Plusminus × List ℕ) (tokens : List Token) (bytes : List ℕ) → plus_or_minus bytes ≡ Some got → At tokens got.1 → At (Sign (sign_byte got.0) ∷ tokens) bytes
-unfolding plus_or_minus
-gives_plus_or_minus got tokens bytes e more =
-    either (sign 43 bytes) _ _ got _ e
-    (λ rest er e.
-    let same : (Plus, rest) ≡ got = some_same (Plus, rest) got e in
-    subst (λ (p : Plusminus × List ℕ). At tokens p.1 → At (Sign (sign_byte p.0) ∷ tokens) bytes) same (gives_sign 43 tokens bytes rest er) more)
-    (λ none e. after (sign 45 bytes) _ got _ e (λ rest er e.
-    let same : (Minus, rest) ≡ got = some_same (Minus, rest) got e in
-    subst (λ (p : Plusminus × List ℕ). At tokens p.1 → At (Sign (sign_byte p.0) ∷ tokens) bytes) same (gives_sign 45 tokens bytes rest er) more))
+name_in-is : (form : Form) (text : List ℕ) → name_in form ≡ Some text → form ≡ f.Name text
+name_in-is (f.Name x) text e = ap f.Name (some_same x text e)
+name_in-is _ text e = absurd cc
 
--- a text
+pub takes_name : (text : List ℕ) (more : Forms) → name (f.Name text ∷ more) ≡ Some (text, more)
+unfolding name
+takes_name text more = refl
 
-quoted_at : (quote : ℕ) (text bytes rest : List ℕ) → is_quote quote ≡ true → AllIn InText text → sign quote (quote ∷ bytes) ≡ Some rest → quoted (quote ∷ (text ++ (quote ∷ bytes))) ≡ Some (text, rest)
-unfolding quoted
-quoted_at quote text bytes rest quotes all e =
-    rw (quotes, back_at InText text (quote ∷ bytes) all (quote_no_text quote quotes), front_at InText text (quote ∷ bytes) all (quote_no_text quote quotes), e) refl
+pub gives_name : (got : List ℕ × Forms) (fs : Forms) → name fs ≡ Some got → fs ≡ f.Name got.0 ∷ got.1
+unfolding name
+gives_name got [] e = cc
+gives_name got (form ∷ fs) e =
+    after (name_in form) _ got _ e (λ text et e.
+    subst (λ (g : List ℕ × Forms). form ∷ fs ≡ f.Name g.0 ∷ g.1) (some_same (text, fs) got e) (ap (λ (g : Form). g ∷ fs) (name_in-is form text et)))
 
-quoted_taken : (text : List ℕ) (tokens : List Token) (bytes : List ℕ) → IsDark tokens → AreTokens (Quoted text ∷ tokens) bytes → Takes (quoted bytes) (λ rest. (text, rest)) tokens
-quoted_taken text tokens bytes dark (quote, gap, rest, is, quotes, all, blank, more) = record {
-  rest = rest;
-  is = ap quoted is ∙ quoted_at quote text (gap ++ rest) rest quotes all (sign_at quote (gap ++ rest) ∙ ap Some (back_at Blank gap rest blank (dark_ends tokens rest dark more)));
-  more = record { it = more };
-}
+pub takes_named : (text : List ℕ) (more : Forms) → named text (f.Name text ∷ more) ≡ Some more
+unfolding named name
+takes_named text more = rw (same_bytes text text refl) refl
 
-pub takes_quoted : (text : List ℕ) (tokens : List Token) (bytes : List ℕ) → At (Quoted text ∷ tokens) bytes → IsDark tokens → Takes (quoted bytes) (λ rest. (text, rest)) tokens
-takes_quoted text tokens bytes at dark = quoted_taken text tokens bytes dark at.it
+pub gives_named : (text : List ℕ) (fs rest : Forms) → named text fs ≡ Some rest → fs ≡ f.Name text ∷ rest
+unfolding named
+gives_named text fs rest e =
+    after (name fs) _ rest _ e (λ n en e.
+    let c = chosen (bytes_eq n.0 text) n.1 rest e in
+    gives_name n fs en ∙ ap (λ (t : List ℕ). f.Name t ∷ n.1) (bytes_same n.0 text c.0) ∙ ap (λ (l : Forms). f.Name text ∷ l) c.1)
 
--- a text that was read
-pub record QuotedIs (tokens : List Token) (bytes : List ℕ) (got : List ℕ × List ℕ) : Type 0 where
-  pub all : AllIn InText got.0
-  pub are : At tokens got.1 → At (Quoted got.0 ∷ tokens) bytes
+-- ---- var
 
-quoted_is : (quote : ℕ) (bytes rest : List ℕ) (tokens : List Token) → is_quote quote ≡ true → sign quote (back InText bytes) ≡ Some rest → At tokens rest → At (Quoted (front InText bytes) ∷ tokens) (quote ∷ bytes)
-quoted_is quote bytes rest tokens quotes e more =
-    let closes : At (Sign quote ∷ tokens) (back InText bytes) = gives_sign quote tokens (back InText bytes) rest e more in
-    let gap = closes.it.0 in
-    let behind = closes.it.1 in
-    let is : back InText bytes ≡ quote ∷ (gap ++ behind) = closes.it.2 in
-    record { it = (quote, gap, behind, ap (λ l. quote ∷ l) (front_back InText bytes ∙ ap (λ l. front InText bytes ++ l) is), quotes, front_all InText bytes, closes.it.3, closes.it.4) }
+is_var-true : (form : Form) → is_var form ≡ true → form ≡ f.Word w.Var
+is_var-true (f.Word w.Var) h = refl
+is_var-true _ h = absurd cc
 
-pub gives_quoted : (got : List ℕ × List ℕ) (tokens : List Token) (bytes : List ℕ) → quoted bytes ≡ Some got → QuotedIs tokens bytes got
-unfolding quoted
-gives_quoted got tokens [] e = cc
-gives_quoted got tokens (quote ∷ bytes) e = by (is_quote quote) refl e where
-  by : (t : Bool) → is_quote quote ≡ t → cond t (sign quote (back InText bytes) >>= (λ rest. Some (front InText bytes, rest))) None ≡ Some got → QuotedIs tokens (quote ∷ bytes) got
-  by false is e = cc
-  by true is e =
-      after (sign quote (back InText bytes)) _ got _ e (λ rest er e.
-      subst (QuotedIs tokens (quote ∷ bytes)) (some_same (front InText bytes, rest) got e)
-      (record { all = front_all InText bytes; are = quoted_is quote bytes rest tokens is er }))
+pub gives_var : (fs rest : Forms) → var_word fs ≡ Some rest → fs ≡ f.Word w.Var ∷ rest
+unfolding var_word
+gives_var [] rest e = cc
+gives_var (form ∷ fs) rest e =
+    let c = chosen (is_var form) fs rest e in
+    ap (λ (g : Form). g ∷ fs) (is_var-true form c.0) ∙ ap (λ (l : Forms). f.Word w.Var ∷ l) c.1
 
--- which of the two it is, shows in the first byte
+-- ---- a text
 
-text_begins : (text : List ℕ) (tokens : List Token) (bytes : List ℕ) → AreTokens (Quoted text ∷ tokens) bytes → begins_text bytes ≡ true
-text_begins text tokens bytes (quote, gap, rest, is, quotes, all, blank, more) = ap begins_text is ∙ quotes
+is_text_open-true : (form : Form) → is_text_open form ≡ true → form ≡ f.TextOpen
+is_text_open-true f.TextOpen h = refl
+is_text_open-true _ h = absurd cc
 
-pub begins_quoted : (text : List ℕ) (tokens : List Token) (bytes : List ℕ) → At (Quoted text ∷ tokens) bytes → begins_text bytes ≡ true
-begins_quoted text tokens bytes at = text_begins text tokens bytes at.it
+is_text_close-true : (form : Form) → is_text_close form ≡ true → form ≡ f.TextClose
+is_text_close-true f.TextClose h = refl
+is_text_close-true _ h = absurd cc
 
-word_begins : (text rest : List ℕ) → AreSome InWord text → begins_text (text ++ rest) ≡ false
-word_begins [] rest some = absurd some
-word_begins (b ∷ text) rest some = false_from_ne_true (is_quote b) (λ t. let f = quote_no_word b t in let g = some.0 in cc)
+piece_in-is : (form : Form) (units : List ℕ) → piece_in form ≡ Some units → form ≡ f.Piece units
+piece_in-is (f.Piece x) units e = ap f.Piece (some_same x units e)
+piece_in-is _ units e = absurd cc
 
-pub run_no_text : (bytes text rest : List ℕ) → run bytes ≡ Some (text, rest) → begins_text bytes ≡ false
-run_no_text bytes text rest e =
-    let r = gives_run text bytes rest e in
-    ap begins_text r.is ∙ word_begins text (r.gap ++ rest) r.some
+gives_open : (fs rest : Forms) → text_open fs ≡ Some rest → fs ≡ f.TextOpen ∷ rest
+unfolding text_open
+gives_open [] rest e = cc
+gives_open (form ∷ fs) rest e =
+    let c = chosen (is_text_open form) fs rest e in
+    ap (λ (g : Form). g ∷ fs) (is_text_open-true form c.0) ∙ ap (λ (l : Forms). f.TextOpen ∷ l) c.1
 
--- There are no more tokens than bytes.
+gives_close : (fs rest : Forms) → text_close fs ≡ Some rest → fs ≡ f.TextClose ∷ rest
+unfolding text_close
+gives_close [] rest e = cc
+gives_close (form ∷ fs) rest e =
+    let c = chosen (is_text_close form) fs rest e in
+    ap (λ (g : Form). g ∷ fs) (is_text_close-true form c.0) ∙ ap (λ (l : Forms). f.TextClose ∷ l) c.1
 
-word_long : (class : Class) (text : List ℕ) → AreSome class text → 0 < length text
-word_long class [] is = absurd is
-word_long class (b ∷ text) is = omega arith
+gives_piece : (got : List ℕ × Forms) (fs : Forms) → piece fs ≡ Some got → fs ≡ f.Piece got.0 ∷ got.1
+unfolding piece
+gives_piece got [] e = cc
+gives_piece got (form ∷ fs) e =
+    after (piece_in form) _ got _ e (λ units eu e.
+    subst (λ (g : List ℕ × Forms). form ∷ fs ≡ f.Piece g.0 ∷ g.1) (some_same (units, fs) got e) (ap (λ (g : Form). g ∷ fs) (piece_in-is form units eu)))
 
-few_tokens : (tokens : List Token) (bytes : List ℕ) → AreTokens tokens bytes → length tokens ≤ length bytes
-few_tokens [] bytes is = omega arith
-few_tokens (Word text ∷ tokens) bytes (gap, rest, is, some, ends, blank, more) =
-    omega (arith, ap length is, length-append text (gap ++ rest), length-append gap rest, word_long InWord text some, few_tokens tokens rest more)
-few_tokens (Number n ∷ tokens) bytes (digits, gap, rest, is, some, value, ends, blank, more) =
-    omega (arith, ap length is, length-append digits (gap ++ rest), length-append gap rest, word_long Digit digits some, few_tokens tokens rest more)
-few_tokens (Quoted text ∷ tokens) bytes (quote, gap, rest, is, quotes, all, blank, more) =
-    omega (arith, ap length is, length-append text (quote ∷ (gap ++ rest)), length-append gap rest, few_tokens tokens rest more)
-few_tokens (Sign byte ∷ tokens) bytes (gap, rest, is, blank, more) =
-    omega (arith, ap length is, length-append gap rest, few_tokens tokens rest more)
+pub takes_text : (units : List ℕ) (more : Forms) → IsText units → text (text_forms units more) ≡ Some (units, more)
+unfolding text text_open piece text_close
+takes_text units more plain = ap (λ t. cond t (Some (units, more)) None) plain
 
-pub enough_bytes : (tokens : List Token) (bytes : List ℕ) → At tokens bytes → length tokens ≤ length bytes
-enough_bytes tokens bytes at = few_tokens tokens bytes at.it
+-- what a text that was read says
+pub record TextIs (got : List ℕ × Forms) (fs : Forms) : Type 0 where
+  pub plain : IsText got.0
+  pub is : fs ≡ text_forms got.0 got.1
+
+pub gives_text : (got : List ℕ × Forms) (fs : Forms) → text fs ≡ Some got → TextIs got fs
+unfolding text
+gives_text got fs e =
+    after (text_open fs) _ got _ e (λ inner ei e.
+    after (piece inner) _ got _ e (λ p ep e.
+    after (text_close p.1) _ got _ e (λ rest er e.
+    let c = chosen (list_all is_plain p.0) (p.0, rest) got e in
+    let it : TextIs (p.0, rest) fs = record {
+      plain = c.0;
+      is = gives_open fs inner ei ∙ ap (λ (l : Forms). f.TextOpen ∷ l) (gives_piece p inner ep ∙ ap (λ (l : Forms). f.Piece p.0 ∷ l) (gives_close p.1 rest er));
+    } in
+    subst (λ (g : List ℕ × Forms). TextIs g fs) c.1 it)))

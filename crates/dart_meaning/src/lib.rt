@@ -4,22 +4,24 @@
 //! text, or whole numbers and names with `+`, `-` and `*` between them.
 //!
 //! - [`program`]: programs.
-//! - [`scan`]: one token at a time.
+//! - [`characters`]: the characters of a text.
+//! - [`tokens`]: one token at a time.
 //! - [`names`]: the names that are declared so far.
-//! - [`read`]: the program of a file.
+//! - [`read`]: the program that tokens are.
 //! - [`run`]: the run of a program.
 #![tactic(auto)]
 
+mod characters;
 mod names;
 mod program;
 mod read;
 mod run;
-mod scan;
+mod tokens;
 
 pub use program::{
     Addend, Expression, MAX_NUMBER, Operand, Product, Program, Sign, Statement, Sum,
 };
-pub use read::{a_file_has_one_program, read_program};
+pub use read::{read_program, tokens_are_one_program};
 pub use run::{run_first, runs_are_of_a_meaning};
 
 #[cfg(test)]

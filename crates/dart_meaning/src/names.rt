@@ -10,7 +10,7 @@ use std::marker::Model;
 /// The names that are declared so far, in order, and of each whether it stands for a text.
 #[derive(Drop)]
 pub struct Names<'a> {
-    kinds: IndexMap<&'a [u8], bool>,
+    kinds: IndexMap<&'a [u16], bool>,
 }
 
 impl<'a> Model for Names<'a> {
@@ -35,7 +35,7 @@ impl<'a> Names<'a> {
     }
 
     /// The place of a name, counted from 0, and whether it stands for a text.
-    pub fn find(&self, name: &[u8]) -> Option<(u64, bool)>
+    pub fn find(&self, name: &[u16]) -> Option<(u64, bool)>
         ensures { result ≡ spec.find name.now self.now }
     {
         let (place, _, is_text) = self.kinds.get_full(name)?;
@@ -43,7 +43,7 @@ impl<'a> Names<'a> {
     }
 
     /// Declares a name; false where it was declared before.
-    pub fn declare(&mut self, name: &'a [u8], is_text: bool) -> Result<bool, AllocError>
+    pub fn declare(&mut self, name: &'a [u16], is_text: bool) -> Result<bool, AllocError>
         ensures { IfOk result (λ fresh. spec.declared fresh self.new ≡ spec.declare name.now is_text self.old) }
     {
         let before = self.kinds.insert(name, is_text)?;

@@ -1,137 +1,99 @@
-//! The program of a file. Each function here is given the bytes from the first byte of a token on, and answers what it
-//! read, and what is behind it and the gap that follows it.
+//! The program that tokens are. Each function here is given tokens, and answers what it read from their front, and what is
+//! behind it.
 
-ghost use Rattle.std.specs.Prelude.{◌≡◌, [], List, ℕ, length, map, IfOk, Some, MatchOption};
+ghost use Rattle.std.specs.Prelude.{◌≡◌, [], List, ℕ, length, IfOk, Some, MatchOption, codes};
 ghost use Rattle.std.specs.Option.{option_map};
+ghost use Rattle.std.specs.Str.{bytes_eq};
 ghost use Rattle.dart_meaning.specs.declared.program.Statement.{Statement};
 ghost use Rattle.dart_meaning.specs.Program as program;
-ghost use Rattle.dart_meaning.specs.Program.{IsProgram, OneProgram};
+ghost use Rattle.dart_meaning.specs.Program.{forms_of, IsProgram, OneProgram};
 ghost use Rattle.dart_meaning.specs.Scope as scope;
 ghost use Rattle.dart_meaning.specs.Reader as spec;
 
 use crate::names::Names;
-use crate::program::{Addend, Expression, Operand, Product, Program, Statement, Sum};
-use crate::scan::{
-    Class, begins, begins_text, is_digit, number_of, past, plus_or_minus, quoted, run, sign, word,
+use crate::program::{Addend, Expression, MAX_NUMBER, Operand, Product, Program, Statement, Sum};
+use crate::tokens::{
+    begins_declaration, begins_text, name, named, next, plus_or_minus, sign, text, var_word,
 };
 use code_units::Text;
+use dart_syntax::{Form, Sign as Mark, Token};
 use sqlite_items::Items;
 use std::alloc::{AllocError, Global};
 
-/// The reserved words.
-const RESERVED_WORDS: [&str; 33] = [
-    "assert", "break", "case", "catch", "class", "const", "continue", "default", "do", "else",
-    "enum", "extends", "false", "final", "finally", "for", "if", "in", "is", "new", "null",
-    "rethrow", "return", "super", "switch", "this", "throw", "true", "try", "var", "void", "while",
-    "with",
-];
+/// `main`
+const MAIN: [u16; 4] = [109, 97, 105, 110];
 
-fn is_one_of(word: &[u8], words: &[&str]) -> bool
-    ensures { result ≡ program.is_one_of word.now (map (λ w. w.now) words.now) }
-{
-    for other in words {
-        if word == other.as_bytes() {
-            return true;
-        }
-    }
-    false
-}
+/// `print`
+const PRINT: [u16; 5] = [112, 114, 105, 110, 116];
 
-fn is_reserved(word: &[u8]) -> bool
-    ensures { result ≡ program.is_one_of word.now program.reserved_words }
+/// Whether a name isn't `print`.
+fn may_name(name: &[u16]) -> bool
+    ensures { result ≡ program.may_name name.now }
 {
-    is_one_of(word, &RESERVED_WORDS)
-}
-
-/// Whether a word begins with no digit, is no reserved word, and isn't `print`.
-fn may_name(word: &[u8]) -> bool
-    ensures { result ≡ program.may_name word.now }
-{
-    match word.first() {
-        Some(first) => !is_digit(*first) && !is_reserved(word) && word != b"print".as_slice(),
-        None => false,
-    }
-}
-
-/// The text that has each byte as a unit.
-pub fn text_of(alloc: Global, bytes: &[u8]) -> Result<Text, AllocError>
-    ensures { IfOk result (λ text. text ≡ bytes.now) }
-{
-    let mut text = Text::new(alloc);
-    for byte in bytes {
-        text.push(u16::from(*byte))?;
-    }
-    Ok(text)
-}
-
-fn begins_number(text: &[u8]) -> bool
-    ensures { result ≡ spec.begins_number text.now }
-{
-    match text.first() {
-        Some(first) => is_digit(*first),
-        None => false,
-    }
+    name != PRINT.as_slice()
 }
 
 #[tactic(auto, unfolding(crate::specs::Reader::constant_of))]
-fn constant_of(text: &[u8]) -> Option<(Operand, bool)>
-    ensures { result ≡ spec.constant_of text.now }
+fn constant_of(number: u64) -> Option<(Operand, bool)>
+    ensures { result ≡ spec.constant_of number }
 {
-    let number = number_of(text)?;
-    Some((Operand::Number(number), false))
+    if number <= MAX_NUMBER {
+        Some((Operand::Number(number), false))
+    } else {
+        None
+    }
 }
 
 #[tactic(auto, unfolding(crate::specs::Reader::variable_of))]
-fn variable_of(names: &Names, text: &[u8]) -> Option<(Operand, bool)>
-    ensures { result ≡ spec.variable_of names.now text.now }
+fn variable_of(names: &Names, name: &[u16]) -> Option<(Operand, bool)>
+    ensures { result ≡ spec.variable_of names.now name.now }
 {
-    let (place, is_text) = names.find(text)?;
+    let (place, is_text) = names.find(name)?;
     Some((Operand::Variable(place), is_text))
 }
 
-#[tactic(auto, unfolding(crate::specs::Reader::operand_of))]
-fn operand_of(names: &Names, text: &[u8]) -> Option<(Operand, bool)>
-    ensures { result ≡ spec.operand_of names.now text.now }
+fn operand_of(names: &Names, form: &Form) -> Option<(Operand, bool)>
+    ensures { result ≡ spec.operand_of names.now form.now }
 {
-    if begins_number(text) {
-        constant_of(text)
-    } else {
-        variable_of(names, text)
+    match form {
+        Form::Name(name) => variable_of(names, name.as_slice()),
+        Form::Number(number) => constant_of(*number),
+        _ => None,
     }
 }
 
 /// An operand, and whether it stands for a text.
 #[tactic(auto, unfolding(crate::specs::Reader::operand))]
-fn operand<'a>(names: &Names, bytes: &'a [u8]) -> Option<(Operand, bool, &'a [u8])>
-    ensures { option_map (λ x. (x.0, x.1, x.2.now)) result ≡ spec.operand names.now bytes.now }
+fn operand<'a>(names: &Names, tokens: &'a [Token]) -> Option<(Operand, bool, &'a [Token])>
+    ensures { option_map (λ x. (x.0, x.1, forms_of x.2.now)) result ≡ spec.operand names.now (forms_of tokens.now) }
 {
-    let (text, rest) = run(bytes)?;
-    let (operand, is_text) = operand_of(names, text)?;
+    let (form, rest) = next(tokens)?;
+    let (operand, is_text) = operand_of(names, form)?;
     Some((operand, is_text, rest))
 }
 
 /// An operand of an operator: one that stands for no text.
 #[tactic(auto, unfolding(crate::specs::Reader::factor))]
-fn factor<'a>(names: &Names, bytes: &'a [u8]) -> Option<(Operand, &'a [u8])>
-    ensures { option_map (λ x. (x.0, x.1.now)) result ≡ spec.factor names.now bytes.now }
+fn factor<'a>(names: &Names, tokens: &'a [Token]) -> Option<(Operand, &'a [Token])>
+    ensures { option_map (λ x. (x.0, forms_of x.1.now)) result ≡ spec.factor names.now (forms_of tokens.now) }
 {
-    let (operand, is_text, rest) = operand(names, bytes)?;
+    let (operand, is_text, rest) = operand(names, tokens)?;
     if is_text { None } else { Some((operand, rest)) }
 }
 
-/// The operands behind the first one of a product. Each takes a byte at least.
-#[tactic(auto, using(crate::proofs::Fronts::one_turn, crate::proofs::Fronts::no_turn), unfolding(crate::specs::Reader::factors))]
+/// The operands behind the first one of a product. Each takes a token at least.
+#[tactic(auto, using(crate::proofs::Turns::one_turn, crate::proofs::Turns::no_turn), unfolding(crate::specs::Reader::factors))]
 fn factors<'a>(
     alloc: Global,
     names: &Names,
-    bytes: &'a [u8],
-) -> Result<Option<(Items<Operand>, &'a [u8])>, AllocError>
-    ensures { IfOk result (λ found. option_map (λ x. (x.0, x.1.now)) found ≡ spec.factors (length bytes.now) names.now [] bytes.now) }
+    tokens: &'a [Token],
+) -> Result<Option<(Items<Operand>, &'a [Token])>, AllocError>
+    ensures { IfOk result (λ found. option_map (λ x. (x.0, forms_of x.1.now)) found ≡ spec.factors (length tokens.now) names.now [] (forms_of tokens.now)) }
 {
     let mut operands = Items::new(alloc);
-    let mut rest = bytes;
-    for _turn in 0..bytes.len() {
-        let Some(after) = sign(rest, b'*') else {
+    let mut rest = tokens;
+    for _turn in 0..tokens.len() {
+        let Some(after) = sign(Mark::Times, rest) else {
             return Ok(Some((operands, rest)));
         };
         let Some((operand, after)) = factor(names, after) else {
@@ -140,20 +102,20 @@ fn factors<'a>(
         operands.push(operand)?;
         rest = after;
     }
-    Ok(None)
+    Ok(Some((operands, rest)))
 }
 
 /// A product, behind its first operand.
-#[tactic(auto, unfolding(crate::specs::Reader::product_behind))]
+#[tactic(auto, using(crate::proofs::Turns::as_many), unfolding(crate::specs::Reader::product_behind))]
 fn product_behind<'a>(
     alloc: Global,
     names: &Names,
     first: Operand,
-    bytes: &'a [u8],
-) -> Result<Option<(Product, &'a [u8])>, AllocError>
-    ensures { IfOk result (λ found. option_map (λ x. (x.0, x.1.now)) found ≡ spec.product_behind names.now first bytes.now) }
+    tokens: &'a [Token],
+) -> Result<Option<(Product, &'a [Token])>, AllocError>
+    ensures { IfOk result (λ found. option_map (λ x. (x.0, forms_of x.1.now)) found ≡ spec.product_behind names.now first (forms_of tokens.now)) }
 {
-    let Some((operands, after)) = factors(alloc, names, bytes)? else {
+    let Some((operands, after)) = factors(alloc, names, tokens)? else {
         return Ok(None);
     };
     Ok(Some((
@@ -169,28 +131,28 @@ fn product_behind<'a>(
 fn product<'a>(
     alloc: Global,
     names: &Names,
-    bytes: &'a [u8],
-) -> Result<Option<(Product, &'a [u8])>, AllocError>
-    ensures { IfOk result (λ found. option_map (λ x. (x.0, x.1.now)) found ≡ spec.product names.now bytes.now) }
+    tokens: &'a [Token],
+) -> Result<Option<(Product, &'a [Token])>, AllocError>
+    ensures { IfOk result (λ found. option_map (λ x. (x.0, forms_of x.1.now)) found ≡ spec.product names.now (forms_of tokens.now)) }
 {
-    let Some((first, after)) = factor(names, bytes) else {
+    let Some((first, after)) = factor(names, tokens) else {
         return Ok(None);
     };
     product_behind(alloc, names, first, after)
 }
 
-/// The addends behind the first product of a sum. Each takes a byte at least.
-#[tactic(auto, using(crate::proofs::Fronts::one_turn, crate::proofs::Fronts::no_turn), unfolding(crate::specs::Reader::addends))]
+/// The addends behind the first product of a sum. Each takes a token at least.
+#[tactic(auto, using(crate::proofs::Turns::one_turn, crate::proofs::Turns::no_turn), unfolding(crate::specs::Reader::addends))]
 fn addends<'a>(
     alloc: Global,
     names: &Names,
-    bytes: &'a [u8],
-) -> Result<Option<(Items<Addend>, &'a [u8])>, AllocError>
-    ensures { IfOk result (λ found. option_map (λ x. (x.0, x.1.now)) found ≡ spec.addends (length bytes.now) names.now [] bytes.now) }
+    tokens: &'a [Token],
+) -> Result<Option<(Items<Addend>, &'a [Token])>, AllocError>
+    ensures { IfOk result (λ found. option_map (λ x. (x.0, forms_of x.1.now)) found ≡ spec.addends (length tokens.now) names.now [] (forms_of tokens.now)) }
 {
     let mut addends = Items::new(alloc);
-    let mut rest = bytes;
-    for _turn in 0..bytes.len() {
+    let mut rest = tokens;
+    for _turn in 0..tokens.len() {
         let Some((sign, after)) = plus_or_minus(rest) else {
             return Ok(Some((addends, rest)));
         };
@@ -200,20 +162,20 @@ fn addends<'a>(
         addends.push(Addend { sign, product })?;
         rest = after;
     }
-    Ok(None)
+    Ok(Some((addends, rest)))
 }
 
 /// A sum of numbers, behind its first operand.
-#[tactic(auto, unfolding(crate::specs::Reader::sum_behind))]
+#[tactic(auto, using(crate::proofs::Turns::as_many), unfolding(crate::specs::Reader::sum_behind))]
 fn sum_behind<'a>(
     alloc: Global,
     names: &Names,
     first: Operand,
-    bytes: &'a [u8],
-) -> Result<Option<(Sum, &'a [u8])>, AllocError>
-    ensures { IfOk result (λ found. option_map (λ x. (x.0, x.1.now)) found ≡ spec.sum_behind names.now first bytes.now) }
+    tokens: &'a [Token],
+) -> Result<Option<(Sum, &'a [Token])>, AllocError>
+    ensures { IfOk result (λ found. option_map (λ x. (x.0, forms_of x.1.now)) found ≡ spec.sum_behind names.now first (forms_of tokens.now)) }
 {
-    let Some((first, after)) = product_behind(alloc, names, first, bytes)? else {
+    let Some((first, after)) = product_behind(alloc, names, first, tokens)? else {
         return Ok(None);
     };
     let Some((rest, after)) = addends(alloc, names, after)? else {
@@ -241,11 +203,11 @@ fn alone(alloc: Global, operand: Operand) -> Sum
 fn sum<'a>(
     alloc: Global,
     names: &Names,
-    bytes: &'a [u8],
-) -> Result<Option<(Sum, bool, &'a [u8])>, AllocError>
-    ensures { IfOk result (λ found. option_map (λ x. (x.0, x.1, x.2.now)) found ≡ spec.sum names.now bytes.now) }
+    tokens: &'a [Token],
+) -> Result<Option<(Sum, bool, &'a [Token])>, AllocError>
+    ensures { IfOk result (λ found. option_map (λ x. (x.0, x.1, forms_of x.2.now)) found ≡ spec.sum names.now (forms_of tokens.now)) }
 {
-    let Some((first, is_text, after)) = operand(names, bytes) else {
+    let Some((first, is_text, after)) = operand(names, tokens) else {
         return Ok(None);
     };
     if is_text {
@@ -258,28 +220,25 @@ fn sum<'a>(
 }
 
 #[tactic(auto, unfolding(crate::specs::Reader::text_expression))]
-fn text_expression(
-    alloc: Global,
-    bytes: &[u8],
-) -> Result<Option<(Expression, bool, &[u8])>, AllocError>
-    ensures { IfOk result (λ found. option_map (λ x. (x.0, x.1, x.2.now)) found ≡ spec.text_expression bytes.now) }
+fn text_expression(tokens: &[Token]) -> Result<Option<(Expression, bool, &[Token])>, AllocError>
+    ensures { IfOk result (λ found. option_map (λ x. (x.0, x.1, forms_of x.2.now)) found ≡ spec.text_expression (forms_of tokens.now)) }
 {
-    let Some((text, after)) = quoted(bytes) else {
+    let Some((units, after)) = text(tokens) else {
         return Ok(None);
     };
-    let text = text_of(alloc, text)?;
-    Ok(Some((Expression::Text(text), true, after)))
+    let units = units.copy()?;
+    Ok(Some((Expression::Text(units), true, after)))
 }
 
 #[tactic(auto, unfolding(crate::specs::Reader::sum_expression))]
 fn sum_expression<'a>(
     alloc: Global,
     names: &Names,
-    bytes: &'a [u8],
-) -> Result<Option<(Expression, bool, &'a [u8])>, AllocError>
-    ensures { IfOk result (λ found. option_map (λ x. (x.0, x.1, x.2.now)) found ≡ spec.sum_expression names.now bytes.now) }
+    tokens: &'a [Token],
+) -> Result<Option<(Expression, bool, &'a [Token])>, AllocError>
+    ensures { IfOk result (λ found. option_map (λ x. (x.0, x.1, forms_of x.2.now)) found ≡ spec.sum_expression names.now (forms_of tokens.now)) }
 {
-    let Some((sum, is_text, after)) = sum(alloc, names, bytes)? else {
+    let Some((sum, is_text, after)) = sum(alloc, names, tokens)? else {
         return Ok(None);
     };
     Ok(Some((Expression::Sum(sum), is_text, after)))
@@ -290,14 +249,14 @@ fn sum_expression<'a>(
 fn expression<'a>(
     alloc: Global,
     names: &Names,
-    bytes: &'a [u8],
-) -> Result<Option<(Expression, bool, &'a [u8])>, AllocError>
-    ensures { IfOk result (λ found. option_map (λ x. (x.0, x.1, x.2.now)) found ≡ spec.expression names.now bytes.now) }
+    tokens: &'a [Token],
+) -> Result<Option<(Expression, bool, &'a [Token])>, AllocError>
+    ensures { IfOk result (λ found. option_map (λ x. (x.0, x.1, forms_of x.2.now)) found ≡ spec.expression names.now (forms_of tokens.now)) }
 {
-    if begins_text(bytes) {
-        text_expression(alloc, bytes)
+    if begins_text(tokens) {
+        text_expression(tokens)
     } else {
-        sum_expression(alloc, names, bytes)
+        sum_expression(alloc, names, tokens)
     }
 }
 
@@ -306,11 +265,11 @@ fn expression<'a>(
 fn print_statement<'a>(
     alloc: Global,
     names: &Names,
-    bytes: &'a [u8],
-) -> Result<Option<(Statement, &'a [u8])>, AllocError>
-    ensures { IfOk result (λ found. option_map (λ x. (x.0, names.now, x.1.now)) found ≡ spec.print_statement names.now bytes.now) }
+    tokens: &'a [Token],
+) -> Result<Option<(Statement, &'a [Token])>, AllocError>
+    ensures { IfOk result (λ found. option_map (λ x. (x.0, names.now, forms_of x.1.now)) found ≡ spec.print_statement names.now (forms_of tokens.now)) }
 {
-    let Some(after) = print_opening(bytes) else {
+    let Some(after) = print_opening(tokens) else {
         return Ok(None);
     };
     let Some((value, _, after)) = expression(alloc, names, after)? else {
@@ -324,33 +283,33 @@ fn print_statement<'a>(
 
 /// `print (`
 #[tactic(auto, unfolding(crate::specs::Reader::print_opening))]
-fn print_opening(bytes: &[u8]) -> Option<&[u8]>
-    ensures { option_map (λ x. x.now) result ≡ spec.print_opening bytes.now }
+fn print_opening(tokens: &[Token]) -> Option<&[Token]>
+    ensures { option_map (λ x. forms_of x.now) result ≡ spec.print_opening (forms_of tokens.now) }
 {
-    let after = word(bytes, b"print")?;
-    sign(after, b'(')
+    let after = named(PRINT.as_slice(), tokens)?;
+    sign(Mark::OpenParen, after)
 }
 
 /// `) ;`
 #[tactic(auto, unfolding(crate::specs::Reader::print_closing))]
-fn print_closing(bytes: &[u8]) -> Option<&[u8]>
-    ensures { option_map (λ x. x.now) result ≡ spec.print_closing bytes.now }
+fn print_closing(tokens: &[Token]) -> Option<&[Token]>
+    ensures { option_map (λ x. forms_of x.now) result ≡ spec.print_closing (forms_of tokens.now) }
 {
-    let after = sign(bytes, b')')?;
-    sign(after, b';')
+    let after = sign(Mark::CloseParen, tokens)?;
+    sign(Mark::Semicolon, after)
 }
 
 /// `var name =`
 #[tactic(auto, unfolding(crate::specs::Reader::declaration_opening))]
-fn declaration_opening(bytes: &[u8]) -> Option<(&[u8], &[u8])>
-    ensures { option_map (λ x. (x.0.now, x.1.now)) result ≡ spec.declaration_opening bytes.now }
+fn declaration_opening(tokens: &[Token]) -> Option<(&[u16], &[Token])>
+    ensures { option_map (λ x. (x.0.now, forms_of x.1.now)) result ≡ spec.declaration_opening (forms_of tokens.now) }
 {
-    let after = word(bytes, b"var")?;
-    let (name, after) = run(after)?;
+    let after = var_word(tokens)?;
+    let (name, after) = name(after)?;
     if !may_name(name) {
         return None;
     }
-    let rest = sign(after, b'=')?;
+    let rest = sign(Mark::Assign, after)?;
     Some((name, rest))
 }
 
@@ -359,23 +318,23 @@ fn declaration_opening(bytes: &[u8]) -> Option<(&[u8], &[u8])>
 fn declaration<'a>(
     alloc: Global,
     names: &mut Names<'a>,
-    bytes: &'a [u8],
-) -> Result<Option<(Statement, &'a [u8])>, AllocError>
-    ensures { IfOk result (λ found. option_map (λ x. (x.0, names.new, x.1.now)) found ≡ spec.declaration names.old bytes.now) }
+    tokens: &'a [Token],
+) -> Result<Option<(Statement, &'a [Token])>, AllocError>
+    ensures { IfOk result (λ found. option_map (λ x. (x.0, names.new, forms_of x.1.now)) found ≡ spec.declaration names.old (forms_of tokens.now)) }
 {
-    let Some((name, after)) = declaration_opening(bytes) else {
+    let Some((name, after)) = declaration_opening(tokens) else {
         return Ok(None);
     };
     let Some((value, is_text, after)) = expression(alloc, names, after)? else {
         return Ok(None);
     };
-    let Some(rest) = sign(after, b';') else {
+    let Some(rest) = sign(Mark::Semicolon, after) else {
         return Ok(None);
     };
     if !names.declare(name, is_text)? {
         return Ok(None);
     }
-    let name = text_of(alloc, name)?;
+    let name = Text::from_slice(alloc, name)?;
     Ok(Some((Statement::Declare { name, value }, rest)))
 }
 
@@ -383,43 +342,49 @@ fn declaration<'a>(
 fn statement<'a>(
     alloc: Global,
     names: &mut Names<'a>,
-    bytes: &'a [u8],
-) -> Result<Option<(Statement, &'a [u8])>, AllocError>
-    ensures { IfOk result (λ found. option_map (λ x. (x.0, names.new, x.1.now)) found ≡ spec.statement names.old bytes.now) }
+    tokens: &'a [Token],
+) -> Result<Option<(Statement, &'a [Token])>, AllocError>
+    ensures { IfOk result (λ found. option_map (λ x. (x.0, names.new, forms_of x.1.now)) found ≡ spec.statement names.old (forms_of tokens.now)) }
 {
-    if begins(bytes, b"print") {
-        print_statement(alloc, names, bytes)
+    if begins_declaration(tokens) {
+        declaration(alloc, names, tokens)
     } else {
-        declaration(alloc, names, bytes)
+        print_statement(alloc, names, tokens)
     }
 }
 
 /// `main ( ) {`
 #[tactic(auto, unfolding(crate::specs::Reader::opening))]
-fn opening(bytes: &[u8]) -> Option<&[u8]>
-    ensures { option_map (λ x. x.now) result ≡ spec.opening bytes.now }
+fn opening(tokens: &[Token]) -> Option<&[Token]>
+    ensures { option_map (λ x. forms_of x.now) result ≡ spec.opening (forms_of tokens.now) }
 {
-    let after = word(bytes, b"main")?;
-    let after = sign(after, b'(')?;
-    let after = sign(after, b')')?;
-    sign(after, b'{')
+    let after = named(MAIN.as_slice(), tokens)?;
+    let after = sign(Mark::OpenParen, after)?;
+    let after = sign(Mark::CloseParen, after)?;
+    sign(Mark::OpenBrace, after)
 }
 
-/// The statements up to the `}` that ends the file. Each takes a byte at least.
-#[tactic(auto, using(crate::proofs::Fronts::one_turn, crate::proofs::Fronts::no_turn), unfolding(crate::specs::Reader::statements))]
-fn statements(alloc: Global, bytes: &[u8]) -> Result<Option<Program>, AllocError>
-    ensures { IfOk result (λ found. found ≡ spec.statements (length bytes.now) scope.no_names [] bytes.now) }
+/// The program, where nothing is behind it.
+fn closed(program: Program, rest: &[Token]) -> Option<Program>
+    ensures { result ≡ spec.closed program (forms_of rest.now) }
+{
+    match next(rest) {
+        Some(_) => None,
+        None => Some(program),
+    }
+}
+
+/// The statements up to the `}` that is the last token. Each takes a token at least.
+#[tactic(auto, using(crate::proofs::Turns::one_turn, crate::proofs::Turns::no_turn), unfolding(crate::specs::Reader::statements))]
+fn statements(alloc: Global, tokens: &[Token]) -> Result<Option<Program>, AllocError>
+    ensures { IfOk result (λ found. found ≡ spec.statements (length tokens.now) scope.no_names [] (forms_of tokens.now)) }
 {
     let mut names = Names::new(alloc);
     let mut program = Items::new(alloc);
-    let mut rest = bytes;
-    for _turn in 0..bytes.len() {
-        if let Some(after) = sign(rest, b'}') {
-            return Ok(if after.is_empty() {
-                Some(program)
-            } else {
-                None
-            });
+    let mut rest = tokens;
+    for _turn in 0..tokens.len() {
+        if let Some(after) = sign(Mark::CloseBrace, rest) {
+            return Ok(closed(program, after));
         }
         let Some((statement, after)) = statement(alloc, &mut names, rest)? else {
             return Ok(None);
@@ -430,26 +395,26 @@ fn statements(alloc: Global, bytes: &[u8]) -> Result<Option<Program>, AllocError
     Ok(None)
 }
 
-#[tactic(auto, unfolding(crate::specs::Reader::read))]
-fn read(alloc: Global, bytes: &[u8]) -> Result<Option<Program>, AllocError>
-    ensures { IfOk result (λ found. found ≡ spec.read bytes.now) }
+#[tactic(auto, using(crate::proofs::Turns::as_many), unfolding(crate::specs::Reader::read))]
+fn read(alloc: Global, tokens: &[Token]) -> Result<Option<Program>, AllocError>
+    ensures { IfOk result (λ found. found ≡ spec.read (forms_of tokens.now)) }
 {
-    let Some(rest) = opening(past(Class::Blank, bytes)) else {
+    let Some(rest) = opening(tokens) else {
         return Ok(None);
     };
     statements(alloc, rest)
 }
 
-/// The program of a file of the first form; None exactly where the bytes aren't of this form. Takes time in the number
-/// of bytes.
-pub fn read_program(alloc: Global, bytes: &[u8]) -> Result<Option<Program>, AllocError>
-    ensures exact { IfOk result (λ program. MatchOption program ((p : List Statement) → IsProgram bytes.now p → ⊥) (IsProgram bytes.now)) }
-    ensures one { IfOk result (λ program. (p : List Statement) → IsProgram bytes.now p → program ≡ Some p) }
+/// The first program that these tokens are, all of them; None exactly where they are none. Takes time linear in the
+/// tokens, where a look-up of a name takes constant time.
+pub fn read_program(alloc: Global, tokens: &[Token]) -> Result<Option<Program>, AllocError>
+    ensures exact { IfOk result (λ program. MatchOption program ((p : List Statement) → IsProgram tokens.now p → ⊥) (IsProgram tokens.now)) }
+    ensures one { IfOk result (λ program. (p : List Statement) → IsProgram tokens.now p → program ≡ Some p) }
 {
-    read(alloc, bytes)
+    read(alloc, tokens)
 }
 
-/// A law: a file has at most one program.
-pub fn a_file_has_one_program()
+/// A law: tokens are one program at most.
+pub fn tokens_are_one_program()
     ensures { OneProgram }
 {}

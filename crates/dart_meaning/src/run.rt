@@ -13,8 +13,9 @@ ghost use Rattle.dart_meaning.specs.Runner as spec;
 ghost use Rattle.dart_meaning.specs.Runner.{datum_of, turned};
 
 use crate::program::{Addend, Expression, MAX_NUMBER, Operand, Product, Sign, Statement, Sum};
-use crate::read::{read_program, text_of};
+use crate::read::read_program;
 use code_units::{End, Lines, RunEnd, Text};
+use dart_syntax::Token;
 use itoa::Buffer;
 use std::alloc::{AllocError, Global};
 
@@ -169,6 +170,17 @@ fn expression_value<'a>(values: &[Value<'a>], expression: &'a Expression) -> Opt
     }
 }
 
+/// The text that has each byte as a unit.
+fn text_of(alloc: Global, bytes: &[u8]) -> Result<Text, AllocError>
+    ensures { IfOk result (λ text. text ≡ bytes.now) }
+{
+    let mut text = Text::new(alloc);
+    for byte in bytes {
+        text.push(u16::from(*byte))?;
+    }
+    Ok(text)
+}
+
 fn decimal_text(alloc: Global, number: i128) -> Result<Text, AllocError>
     ensures { IfOk result (λ text. text ≡ meaning.text_of (meaning.Whole number)) }
 {
@@ -283,11 +295,11 @@ fn run_program(alloc: Global, program: &[Statement], steps: u64) -> Result<RunEn
     })
 }
 
-/// The run of a file of the first form, of so many steps at most; None exactly where the bytes aren't of this form.
-pub fn run_first(alloc: Global, bytes: &[u8], steps: u64) -> Result<Option<RunEnd>, AllocError>
-    ensures { IfOk result (λ run. MatchOption run ((p : List Statement) → IsProgram bytes.now p → ⊥) (λ run. (p : List Statement) × IsProgram bytes.now p × ((order : List ℕ) → run ≡ run_end_of (dart p order steps)))) }
+/// The run of the first program that these tokens are, of so many steps at most; None exactly where they are none.
+pub fn run_first(alloc: Global, tokens: &[Token], steps: u64) -> Result<Option<RunEnd>, AllocError>
+    ensures { IfOk result (λ run. MatchOption run ((p : List Statement) → IsProgram tokens.now p → ⊥) (λ run. (p : List Statement) × IsProgram tokens.now p × ((order : List ℕ) → run ≡ run_end_of (dart p order steps)))) }
 {
-    let Some(program) = read_program(alloc, bytes)? else {
+    let Some(program) = read_program(alloc, tokens)? else {
         return Ok(None);
     };
     Ok(Some(run_program(alloc, program.as_slice(), steps)?))

@@ -2,6 +2,9 @@ pub mod Small
 pub mod Agreement
 pub mod Translating
 pub mod Lists
+pub mod Derived
+pub mod Refusing
+pub mod Judging
 pub mod Loads
 pub mod Finished
 pub mod Complete

@@ -1,6 +1,11 @@
 -- The numbers, names and texts of a program that was read are in range, and so are those of its translation.
 use Rattle.std.proofs.Common.{◌≡◌, Bool, true, false, ℕ, suc, ◌+◌, ◌*◌, ◌^◌, ◌<◌, ◌≤◌, List, [], ◌∷◌, ◌++◌, length, refl, sym, ap, ◌∙◌, subst, arith, length-append}
+use Rattle.std.proofs.lemmas.Bool.{and_parts}
+use Rattle.std.proofs.lemmas.List.{length-map}
 use Rattle.std.proofs.lemmas.Option.{slice_get_within}
+use Rattle.dart_syntax.specs.declared.words.Sign.TheVariants as s
+use Rattle.dart_syntax.specs.declared.tokens.Form.TheVariants as f
+use Rattle.dart_syntax.specs.declared.tokens.Token.{Token}
 use Rattle.dart_meaning.specs.declared.program.Operand.{Operand}
 use Rattle.dart_meaning.specs.declared.program.Operand.TheVariants as dart_operands
 use Rattle.dart_meaning.specs.declared.program.Product.{Product}
@@ -10,10 +15,7 @@ use Rattle.dart_meaning.specs.declared.program.Expression.{Expression}
 use Rattle.dart_meaning.specs.declared.program.Expression.TheVariants as expressions
 use Rattle.dart_meaning.specs.declared.program.Statement.{Statement}
 use Rattle.dart_meaning.specs.declared.program.Statement.TheVariants as dart_statements
-use Rattle.dart_meaning.specs.declared.scan.Class.TheVariants as dart_classes
-use Rattle.dart_meaning.specs.Tokens as dart_tokens
-use Rattle.dart_meaning.specs.Tokens.{Token, Word, Number, Quoted, Sign, AreTokens}
-use Rattle.dart_meaning.specs.Program.{Kinds, Names, IsOperand, IsNumeric, AreNumeric, IsProduct, AreAddends, IsSum, IsExpression, is_text, AreWellFormed, factors_tokens, product_tokens, addends_tokens, expression_tokens, statements_tokens, program_tokens, IsProgram}
+use Rattle.dart_meaning.specs.Program.{Kinds, Names, Forms, IsText, IsOperand, IsNumeric, AreNumeric, IsProduct, AreAddends, IsSum, IsExpression, is_text, AreWellFormed, factors_forms, addends_forms, expression_forms, statements_forms, IsProgram}
 use Rattle.js_meaning.specs.declared.tree.Operand.{Operand as JsOperand}
 use Rattle.js_meaning.specs.declared.tree.Operand.TheVariants.{Digits, Operation, Variable, Str}
 use Rattle.js_meaning.specs.declared.tree.JsStmt.{JsStmt}
@@ -42,47 +44,36 @@ all_names [] = 0
 all_names (dart_statements.Print value ∷ program) = all_names program
 all_names (dart_statements.Declare name value ∷ program) = suc (all_names program)
 
--- There are no more of both than tokens, and no more tokens than bytes.
+-- There are no more of both than tokens.
 
-factors_length : (names : Names) (factors : List Operand) (more : List Token) → length (factors_tokens names factors more) ≡ 2 * length factors + length more
+factors_length : (names : Names) (factors : List Operand) (more : Forms) → length (factors_forms names factors more) ≡ 2 * length factors + length more
 factors_length names [] more = omega arith
 factors_length names (factor ∷ factors) more = omega (arith, factors_length names factors more)
 
-addends_length : (names : Names) (addends : List Addend) (more : List Token) → addend_operators addends + length more ≤ length (addends_tokens names addends more)
+addends_length : (names : Names) (addends : List Addend) (more : Forms) → addend_operators addends + length more ≤ length (addends_forms names addends more)
 addends_length names [] more = omega arith
 addends_length names (addend ∷ addends) more =
-    let behind : List Token = addends_tokens names addends more in
+    let behind : Forms = addends_forms names addends more in
     omega (arith, addends_length names addends more, factors_length names addend.product.rest behind)
 
-expression_length : (names : Names) (value : Expression) (more : List Token) → operators value + length more ≤ length (expression_tokens names value more)
+expression_length : (names : Names) (value : Expression) (more : Forms) → operators value + length more ≤ length (expression_forms names value more)
 expression_length names (expressions.Text text) more = omega arith
 expression_length names (expressions.Sum sum) more =
-    let behind : List Token = addends_tokens names sum.rest more in
+    let behind : Forms = addends_forms names sum.rest more in
     omega (arith, addends_length names sum.rest more, factors_length names sum.first.rest behind)
 
-statements_length : (names : Names) (program : List Statement) → all_operators program + all_names program ≤ length (statements_tokens names program)
+statements_length : (names : Names) (program : List Statement) → all_operators program + all_names program ≤ length (statements_forms names program)
 statements_length names [] = omega arith
 statements_length names (dart_statements.Print value ∷ program) =
-    let behind : List Token = Sign 41 ∷ Sign 59 ∷ statements_tokens names program in
+    let behind : Forms = f.Sign s.CloseParen ∷ f.Sign s.Semicolon ∷ statements_forms names program in
     omega (arith, statements_length names program, expression_length names value behind)
 statements_length names (dart_statements.Declare name value ∷ program) =
-    let behind : List Token = Sign 59 ∷ statements_tokens (names ++ name ∷ []) program in
+    let behind : Forms = f.Sign s.Semicolon ∷ statements_forms (names ++ name ∷ []) program in
     omega (arith, statements_length (names ++ name ∷ []) program, expression_length names value behind)
 
-some_bytes : (class : _) (text : List ℕ) → dart_tokens.AreSome class text → 1 ≤ length text
-some_bytes class [] h = absurd h
-some_bytes class (b ∷ text) h = omega arith
-
-few_tokens : (tokens : List Token) (bytes : List ℕ) → AreTokens tokens bytes → length tokens ≤ length bytes
-few_tokens [] bytes h = omega arith
-few_tokens (Word text ∷ tokens) bytes (gap, rest, is, some, ends, blank, more) =
-    omega (arith, few_tokens tokens rest more, some_bytes dart_classes.Word text some, ap length is, length-append text (gap ++ rest), length-append gap rest)
-few_tokens (Number n ∷ tokens) bytes (digits, gap, rest, is, some, value, ends, blank, more) =
-    omega (arith, few_tokens tokens rest more, some_bytes dart_classes.Digit digits some, ap length is, length-append digits (gap ++ rest), length-append gap rest)
-few_tokens (Quoted text ∷ tokens) bytes (quote, gap, rest, is, quoted, all, blank, more) =
-    omega (arith, few_tokens tokens rest more, ap length is, length-append text (quote ∷ (gap ++ rest)), length-append gap rest)
-few_tokens (Sign byte ∷ tokens) bytes (gap, rest, is, blank, more) =
-    omega (arith, few_tokens tokens rest more, ap length is, length-append gap rest)
+program_length : (tokens : List Token) (program : List Statement) → IsProgram tokens program → all_operators program + all_names program ≤ length tokens
+program_length tokens program is =
+    omega (arith, statements_length [] program, ap length is.spelled, length-map tokens (λ (t : Token). t.form))
 
 -- Operands.
 
@@ -94,9 +85,9 @@ operand_in_range : (kinds : Kinds) (operand : Operand) → length kinds ≤ 2 ^ 
 operand_in_range kinds (dart_operands.Number n) le h = h
 operand_in_range kinds (dart_operands.Variable k) le h = omega arith
 
-text_in_range : (text : List ℕ) → dart_tokens.AllIn dart_classes.Text text → AllIn Character text
+text_in_range : (text : List ℕ) → IsText text → AllIn Character text
 text_in_range [] h = tt
-text_in_range (b ∷ text) h = (h.0, text_in_range text h.1)
+text_in_range (unit ∷ text) h = let both = and_parts _ _ h in (both.0, text_in_range text both.1)
 
 -- The lets of an expression, where what is behind them is in range.
 
@@ -163,11 +154,9 @@ statements_in_range (dart_statements.Declare name value ∷ program) k kinds nam
     expression_in_range value k (length kinds) _ kinds le h.2 here
     (λ p pr. (i, pr, subst (λ i. AreInRange (k + operators value) i (statements_from (k + operators value) (kinds ++ is_text kinds value ∷ []) program)) longer (statements_in_range program (k + operators value) (kinds ++ is_text kinds value ∷ []) (names ++ name ∷ []) h.3 lt' few')))
 
-pub file_in_range : (bytes : List ℕ) (program : List Statement) → length bytes < 2 ^ 64 → IsProgram bytes program → AreInRange 0 0 (file_of program)
-file_in_range bytes program lt is =
-    let few = few_tokens (program_tokens program) is.rest is.spelled in
-    let all = statements_length [] program in
-    let whole : length bytes ≡ length is.gap + length is.rest = ap length is.whole ∙ length-append is.gap is.rest in
-    let operators : 0 + all_operators program < 2 ^ 64 = omega (arith, few, all, whole) in
-    let names : 0 + all_names program < 2 ^ 64 = omega (arith, few, all, whole) in
+pub file_in_range : (tokens : List Token) (program : List Statement) → length tokens < 2 ^ 64 → IsProgram tokens program → AreInRange 0 0 (file_of program)
+file_in_range tokens program lt is =
+    let few = program_length tokens program is in
+    let operators : 0 + all_operators program < 2 ^ 64 = omega (arith, few) in
+    let names : 0 + all_names program < 2 ^ 64 = omega (arith, few) in
     statements_in_range program 0 [] [] is.well_formed operators names

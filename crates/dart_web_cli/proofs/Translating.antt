@@ -1,12 +1,13 @@
 -- The translation of a program that was read is a spelling of a tree that runs as the program does.
-use Rattle.std.proofs.Common.{◌≡◌, ℕ, suc, Bool, true, false, List, [], ◌∷◌, ◌++◌, map, refl, sym, ap, ◌∙◌}
+use Rattle.std.proofs.Common.{◌≡◌, ◌<◌, ◌^◌, ℕ, suc, Bool, true, false, List, [], ◌∷◌, ◌++◌, length, map, refl, sym, ap, ◌∙◌}
+use Rattle.dart_syntax.specs.declared.tokens.Token.{Token}
 use Rattle.dart_meaning.specs.declared.program.Operand.{Operand}
 use Rattle.dart_meaning.specs.declared.program.Addend.{Addend}
 use Rattle.dart_meaning.specs.declared.program.Expression.{Expression}
 use Rattle.dart_meaning.specs.declared.program.Expression.TheVariants as expressions
 use Rattle.dart_meaning.specs.declared.program.Statement.{Statement}
 use Rattle.dart_meaning.specs.declared.program.Statement.TheVariants as statements
-use Rattle.dart_meaning.specs.Program.{Kinds, is_text}
+use Rattle.dart_meaning.specs.Program.{Kinds, is_text, IsProgram}
 use Rattle.js_meaning.specs.declared.tree.Operand.{Operand as JsOperand}
 use Rattle.js_meaning.specs.declared.tree.Operand.TheVariants.{Operation, Str}
 use Rattle.js_meaning.specs.declared.tree.Operator.TheVariants.{Times}
@@ -14,7 +15,7 @@ use Rattle.js_meaning.specs.declared.tree.JsStmt.{JsStmt}
 use Rattle.js_meaning.specs.declared.tree.JsStmt.TheVariants.{Let, Var}
 use Rattle.js_meaning.specs.Spelling.{without_place}
 use Rattle.js_meaning.proofs.Canonical.{text_spelled}
-use Rattle.dart_web_cli.specs.Translation.{operand_of, operator_of, Behind, product_then, addends_then, expression_then, print_of, statements_from, file_of, TranslationIsRight}
+use Rattle.dart_web_cli.specs.Translation.{operand_of, operator_of, Behind, product_then, addends_then, expression_then, print_of, statements_from, file_of, translation, RunsAs, TranslationIsRight}
 use Rattle.dart_web_cli.proofs.Small.{file_in_range}
 use Rattle.dart_web_cli.proofs.Agreement.{same_run}
 
@@ -53,10 +54,13 @@ unplaced (statements.Declare name value ∷ program) k kinds =
     expression_unplaced value k _ (λ k' p. ap (λ r. Var 0 p ∷ r) (unplaced program k' (kinds ++ is_text kinds value ∷ [])))
 
 pub translation_is_right : TranslationIsRight
-translation_is_right bytes out program few is =
-    let spelled = text_spelled (file_of program) (file_in_range bytes program few is) in
+translation_is_right tokens out program few is =
+    let spelled = text_spelled (file_of program) (file_in_range tokens program few is) in
     record {
       tree = spelled.0;
       spelled = spelled.2;
       same = λ order. same_run program out spelled.0 order is.well_formed (sym spelled.1.same ∙ unplaced program 0 []);
     }
+
+pub runs_of : (tokens : List Token) (program : List Statement) → IsProgram tokens program → length tokens < 2 ^ 64 → (name : List ℕ) → RunsAs program name (translation program)
+runs_of tokens program is few name = translation_is_right tokens name program few is

@@ -2,13 +2,14 @@
 use Rattle.std.specs.Prelude.{◌≡◌, ◌⊎◌, ℕ, ◌≤◌, List, ◌++◌, Option, Some, IfSome, Result, MatchResult}
 use Rattle.std.specs.declared.alloc.AllocError.{AllocError}
 use Rattle.outside.specs.Outside.{Held, Rose, Told, OthersStay, Puts, AddsFront}
+use Rattle.dart_syntax.specs.declared.rules.Rule.{Rule}
 use Rattle.dart_meaning.specs.declared.program.Statement.{Statement}
-use Rattle.dart_web_cli.specs.declared.load.Rule.{Rule}
 use Rattle.dart_web_cli.specs.declared.top.Status.{Status}
 use Rattle.dart_web_cli.specs.declared.top.Status.TheVariants.{Ok as Fine, Refused, Usage, ReadFault, WriteFault, Memory, Threw, Spent, Left, Deep, NotInProfile, Stuck}
 use Rattle.dart_web_cli.specs.Translation.{translation, RunsAs}
 use Rattle.dart_web_cli.specs.Words.{IsCompile, IsNoCommand}
-use Rattle.dart_web_cli.specs.Answers.{usage_line, refused_line, cannot_line, IsBroken, IsFine}
+use Rattle.dart_web_cli.specs.Refusals.{IsBroken, IsFine}
+use Rattle.dart_web_cli.specs.Answers.{usage_line, refused_line, cannot_line}
 
 -- what a source holds, where it tells, and how often it has failed
 pub record SourceState : Type 0 where
@@ -66,15 +67,16 @@ pub record IsUsage (call : Call) (line : List ℕ) : Type 0 where
   pub source : call.new ≡ call.old
   pub line_is : line ≡ usage_line
 
--- the entry breaks a rule, and this is the first one
+-- the entry breaks a rule, and this is the first one, and where
 pub record IsRefused (call : Call) (line : List ℕ) : Type 0 where
   pub entry : List ℕ
   pub out : List ℕ
   pub rule : Rule
+  pub at : ℕ
   pub command : IsCompile call.words entry out
-  pub broken : IfSome call.old.files (λ files. IsBroken rule files entry)
+  pub broken : IfSome call.old.files (λ files. IsBroken files entry rule at)
   pub source : call.new ≡ call.old
-  pub line_is : line ≡ refused_line rule entry
+  pub line_is : line ≡ refused_line rule entry at
 
 -- a read of the entry failed
 pub record IsReadFault (call : Call) (line : List ℕ) : Type 0 where
@@ -151,7 +153,7 @@ IsOrMemory wanted status = (status ≡ wanted) ⊎ (status ≡ Memory)
 -- want of memory.
 pub record IsComplete (call : Call) (status : Status) : Type 0 where
   pub usage : HasNoFault call → IsNoCommand call.words → IsOrMemory Usage status
-  pub refused : HasNoFault call → (entry out : List ℕ) (files : Held) (rule : Rule) → IsCompile call.words entry out → call.old.files ≡ Some files → IsBroken rule files entry → IsOrMemory Refused status
+  pub refused : HasNoFault call → (entry out : List ℕ) (files : Held) (rule : Rule) (at : ℕ) → IsCompile call.words entry out → call.old.files ≡ Some files → IsBroken files entry rule at → IsOrMemory Refused status
   pub compiled : HasNoFault call → (entry out : List ℕ) (files : Held) (program : List Statement) → IsCompile call.words entry out → call.old.files ≡ Some files → IsFine files entry program → IsOrMemory Fine status
 
 -- what saying a line comes to

@@ -1,6 +1,7 @@
 -- The translation of a first program, and what it promises.
-use Rattle.std.specs.Prelude.{◌≡◌, ◌<◌, ◌^◌, ℕ, suc, Bool, true, false, List, [], ◌∷◌, ◌++◌, length}
+use Rattle.std.specs.Prelude.{◌≡◌, ◌<◌, ◌^◌, ℕ, suc, Bool, true, false, List, [], ◌∷◌, ◌++◌, length, Option, Some, None}
 use Rattle.code_units.specs.Text.{units_of}
+use Rattle.dart_syntax.specs.declared.tokens.Token.{Token}
 use Rattle.meanings.specs.Runs.{SameRun}
 use Rattle.dart_meaning.specs.declared.program.Operand.{Operand}
 use Rattle.dart_meaning.specs.declared.program.Operand.TheVariants.{Number, Variable}
@@ -88,4 +89,9 @@ pub record RunsAs (program : List Statement) (out bytes : List ℕ) : Type 0 whe
 
 -- the translation of a program that was read runs as the program does
 abbrev pub TranslationIsRight : Type 0
-TranslationIsRight = (bytes out : List ℕ) (program : List Statement) → length bytes < 2 ^ 64 → IsProgram bytes program → RunsAs program out (translation program)
+TranslationIsRight = (tokens : List Token) (out : List ℕ) (program : List Statement) → length tokens < 2 ^ 64 → IsProgram tokens program → RunsAs program out (translation program)
+
+-- what tokens are translated to: nothing where no first program has them
+abbrev pub Translates : List Token → Option (List ℕ) → Type 0
+Translates tokens None = (program : List Statement) → IsProgram tokens program → ⊥
+Translates tokens (Some out) = (program : List Statement) × IsProgram tokens program × (out ≡ translation program) × ((name : List ℕ) → RunsAs program name (translation program))

@@ -99,7 +99,9 @@ fn compile<S: Source, K: Sink>(
             Ok(()) => Status::Ok,
             Err(_) => Status::WriteFault,
         },
-        Loaded::Broken(rule) => finish(sink, refused_line(alloc, rule, entry), Status::Refused),
+        Loaded::Broken { rule, at } => {
+            finish(sink, refused_line(alloc, rule, entry, at), Status::Refused)
+        }
         Loaded::Failed => finish(sink, cannot_line(alloc, entry), Status::ReadFault),
         Loaded::Memory => Status::Memory,
     }

@@ -1,12 +1,13 @@
 //! From a first program to JavaScript.
 ghost use Rattle.std.specs.Prelude.{◌≡◌, ◌≤◌, List, ◌∷◌, ◌++◌, length, IfOk, MatchOption};
 ghost use Rattle.dart_meaning.specs.declared.program.Statement.{Statement};
-ghost use Rattle.dart_meaning.specs.Program.{is_text, lone, IsProgram};
+ghost use Rattle.dart_meaning.specs.Program.{is_text, lone};
 ghost use Rattle.js_meaning.specs.declared.tree.JsStmt.{JsStmt};
-ghost use Rattle.dart_web_cli.specs.Translation.{Behind, operand_of, operator_of, product_then, addends_then, expression_then, print_of, statements_from, file_of, translation, TranslationIsRight};
+ghost use Rattle.dart_web_cli.specs.Translation.{Behind, operand_of, operator_of, product_then, addends_then, expression_then, print_of, statements_from, file_of, TranslationIsRight, Translates};
 
 use code_units::Bytes;
 use dart_meaning::{Addend, Expression, Operand, Product, Sign, Statement, Sum, read_program};
+use dart_syntax::Token;
 use js_meaning::{JsFile, JsStmt, Operand as JsOperand, Operator, print_file};
 use sqlite_items::Items;
 use std::alloc::{AllocError, Global};
@@ -207,11 +208,12 @@ fn translate(alloc: Global, program: &[Statement]) -> Result<JsFile, AllocError>
     Ok(file)
 }
 
-/// The translation of a file of the first form; None exactly where the bytes aren't of this form.
-pub fn compile_first(alloc: Global, bytes: &[u8]) -> Result<Option<Bytes>, AllocError>
-    ensures { IfOk result (λ out. MatchOption out ((p : List Statement) → IsProgram bytes.now p → ⊥) (λ out. (p : List Statement) × IsProgram bytes.now p × (out ≡ translation p))) }
+/// The translation of the first program that these tokens are, which runs as that program does; None exactly where they
+/// are none.
+pub fn compile_first(alloc: Global, tokens: &[Token]) -> Result<Option<Bytes>, AllocError>
+    ensures { IfOk result (Translates tokens.now) }
 {
-    let Some(program) = read_program(alloc, bytes)? else {
+    let Some(program) = read_program(alloc, tokens)? else {
         return Ok(None);
     };
     let file = translate(alloc, program.as_slice())?;

@@ -1,6 +1,7 @@
 use Rattle.std.proofs.Common.{◌≡◌, ◌-◌, [], length}
+use Rattle.dart_meaning.specs.Program.{forms_of}
 use Rattle.dart_meaning.specs.Reader as spec
 use Rattle.dart_meaning.proofs.read.factors.Given as goal
 
 abbrev pub invariant-loop-turn : goal.invariant-loop-turn
-invariant-loop-turn l = spec.factors (length l.fn.bytes) l.names [] l.fn.bytes ≡ spec.factors (length l.fn.bytes - l._turn) l.names l.operands l.rest
+invariant-loop-turn l = spec.factors (length l.tokens) l.names [] (forms_of l.tokens) ≡ spec.factors (length l.tokens - l._turn) l.names l.operands (forms_of l.rest)

@@ -40,24 +40,26 @@ pub returns-in-Broken : goal.returns-in-Broken
 returns-in-Broken g c =
     let entry = c.args.entry.now in
     let rule = c.in-Broken.rule in
+    let at = c.in-Broken.at in
     let old : SourceState = record { files = g.S.Source.files c.args.source.now; faults = g.S.Source.faults c.args.source.now } in
     let new : SourceState = record { files = g.S.Source.files c.load.new.source; faults = g.S.Source.faults c.load.new.source } in
     let before : SinkState = record { files = g.K.Sink.files c.args.sink.now; said = g.K.Sink.said c.args.sink.now; faults = g.K.Sink.faults c.args.sink.now } in
     let now : SinkState = record { files = g.K.Sink.files c.finish.new.sink; said = g.K.Sink.said c.finish.new.sink; faults = g.K.Sink.faults c.finish.new.sink } in
     let call : Call = record { words = c.args.words.now; old = old; new = new; before = before; now = now } in
     let same = same_source old new c.in-Broken.ensures.unchanged c.in-Broken.ensures.cause in
-    let why : IsRefused call (refused_line rule entry) = record {
+    let why : IsRefused call (refused_line rule entry at) = record {
       entry = entry;
       out = c.args.out.now;
       rule = rule;
+      at = at;
       command = c.requires;
       broken = c.in-Broken.ensures.told;
       source = same;
       line_is = refl;
     } in
-    finished call Refused c.refused_line.result c.finish.result (refused_line rule entry) c.refused_line.ensures
-    (λ says. (refused_line rule entry, why, says))
-    (λ front. inr (record { line = refused_line rule entry; cause = inr (inl why); front = front }))
+    finished call Refused c.refused_line.result c.finish.result (refused_line rule entry at) c.refused_line.ensures
+    (λ says. (refused_line rule entry at, why, says))
+    (λ front. inr (record { line = refused_line rule entry at; cause = inr (inl why); front = front }))
     (λ stays. record { files = ap (λ s. s.files) same; later = le_of (ap (λ s. s.faults) same); sink = stays })
     c.finish.ensures
 
