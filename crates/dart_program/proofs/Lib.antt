@@ -1,0 +1,5 @@
+mod Examples
+pub mod Linked
+pub mod Names
+pub mod Search
+pub mod Small
