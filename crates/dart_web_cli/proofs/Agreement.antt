@@ -1,9 +1,9 @@
 -- A first program and its translation come to one conclusion.
-use Rattle.std.proofs.Common.{◌≡◌, ℕ, zero, suc, ◌+◌, ◌<◌, Bool, true, false, cond, List, [], ◌∷◌, ◌++◌, length, map, get_or, Option, Some, None, refl, sym, ap, ◌∙◌, subst, inl, inr, ⊎_elim, ◌⊎◌, arith, length-append, append_assoc, append-nil}
+use Rattle.std.proofs.Common.{◌≡◌, ℕ, zero, suc, ◌+◌, ◌<◌, Bool, true, false, List, [], ◌∷◌, ◌++◌, length, map, get_or, Option, Some, None, refl, sym, ap, ◌∙◌, subst, inl, inr, ⊎_elim, ◌⊎◌, arith, length-append, append_assoc, append-nil}
 use Rattle.std.specs.Prelude.{ℤ, pos, ◌*ℤ◌, slice_get}
 use Rattle.std.specs.Option.{option_map}
 use Rattle.std.proofs.lemmas.Option.{slice_get-map, slice_get-get_or, get_or_from_slice_get}
-use Rattle.meanings.specs.Act.{Halt, Left, Stuck, fin, quit, sub, ActOf, bind}
+use Rattle.meanings.specs.Act.{Halt, Left, Stuck, fin, sub, ActOf}
 use Rattle.meanings.specs.Runs.{SameRun}
 use Rattle.meanings.specs.Ends.{Done, Halted}
 use Rattle.meanings.proofs.Further.{is_meaning}
@@ -18,13 +18,13 @@ use Rattle.dart_meaning.specs.declared.program.Expression.{Expression}
 use Rattle.dart_meaning.specs.declared.program.Expression.TheVariants as expressions
 use Rattle.dart_meaning.specs.declared.program.Statement.{Statement}
 use Rattle.dart_meaning.specs.declared.program.Statement.TheVariants as dart_statements
-use Rattle.dart_meaning.specs.Program.{Kinds, Names, IsOperand, IsNumeric, AreNumeric, IsProduct, AreAddends, IsSum, IsExpression, lone, is_text_name, is_text, AreWellFormed, IsWellFormed}
+use Rattle.dart_meaning.specs.Program.{Kinds, Names, IsOperand, IsNumeric, AreNumeric, AreAddends, IsSum, IsExpression, lone, is_text_name, is_text, AreWellFormed, IsWellFormed}
 use Rattle.dart_meaning.specs.Meaning as source
 use Rattle.dart_meaning.specs.Meaning.{Datum, Whole, Letters, Store, First, operand_value, number_in, product_from, product_value, signed, sum_from, sum_value, lone_or_sum, expression_value, ◌>>=◌}
 use Rattle.js_meaning.specs.declared.tree.Operand.{Operand as JsOperand}
 use Rattle.js_meaning.specs.declared.tree.Operand.TheVariants.{Digits, Operation, Variable, Str}
 use Rattle.js_meaning.specs.declared.tree.Operator.{Operator}
-use Rattle.js_meaning.specs.declared.tree.Operator.TheVariants.{Plus, Minus, Times}
+use Rattle.js_meaning.specs.declared.tree.Operator.TheVariants.{Times}
 use Rattle.js_meaning.specs.declared.tree.JsStmt.{JsStmt}
 use Rattle.js_meaning.specs.declared.tree.JsStmt.TheVariants.{Let, Var, Print, PrintStr}
 use Rattle.js_meaning.specs.declared.value.Value.{Value}

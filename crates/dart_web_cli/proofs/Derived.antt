@@ -1,15 +1,13 @@
 -- First programs are files of the grammar: their tokens have a tree.
-use Rattle.std.proofs.Common.{◌≡◌, ℕ, zero, suc, ◌+◌, Bool, true, false, not, ◌&&◌, if◌then◌else◌, cond, List, [], ◌∷◌, ◌++◌, length, get_or, Option, Some, None, refl, sym, ap, ◌∙◌, subst}
+use Rattle.std.proofs.Common.{◌≡◌, ℕ, Bool, false, not, ◌&&◌, if◌then◌else◌, List, [], ◌∷◌, ◌++◌, get_or, refl, sym, ap, ◌∙◌, subst}
 use Rattle.std.specs.Prelude.{codes}
 use Rattle.dart_syntax.specs.declared.words.Word.TheVariants as w
 use Rattle.dart_syntax.specs.declared.words.Sign.{Sign as Mark}
 use Rattle.dart_syntax.specs.declared.words.Sign.TheVariants as s
 use Rattle.dart_syntax.specs.declared.tokens.Form.{Form}
 use Rattle.dart_syntax.specs.declared.tokens.Form.TheVariants as f
-use Rattle.dart_syntax.specs.declared.tokens.Token.{Token}
 use Rattle.dart_grammar.specs.declared.trees.Span.{Span}
 use Rattle.dart_grammar.specs.declared.trees.Name.{Name}
-use Rattle.dart_grammar.specs.declared.trees.Chain.{Chain}
 use Rattle.dart_grammar.specs.declared.trees.Operator.{Operator as TreeOperator}
 use Rattle.dart_grammar.specs.declared.trees.Operator.TheVariants as o
 use Rattle.dart_grammar.specs.declared.trees.Interpolation.{Interpolation}
@@ -21,10 +19,10 @@ use Rattle.dart_grammar.specs.declared.trees.Head.{Head, out-Head, out-roll-Head
 use Rattle.dart_grammar.specs.declared.trees.Head.TheVariants as h
 use Rattle.dart_grammar.specs.declared.trees.Body.TheOpen.{Expr-F, Head-F}
 use Rattle.dart_grammar.specs.declared.trees.Stmt.{Stmt}
-use Rattle.dart_grammar.specs.declared.kinds.Kind.TheVariants.{Variables as OfVariables, Untyped, Expression as OfExpression}
+use Rattle.dart_grammar.specs.declared.kinds.Kind.TheVariants.{Untyped, Expression as OfExpression}
 use Rattle.dart_grammar.specs.declared.declarations.FileTree.{FileTree}
-use Rattle.dart_grammar.specs.Marks.{Tokens, token, word, sign, ident, is_text_open, next, next_sign, next_word, next_name, behind, same_sign, same_word, operator_of, sign_looseness}
-use Rattle.dart_grammar.specs.Shapes.{kind_of, begins_body, is_before_body, past, opens_function, parameters_end, required_end, nested_end, parameter_name_end, metadata_end}
+use Rattle.dart_grammar.specs.Marks.{Tokens, token, word, sign, ident, is_text_open, next, same_sign, same_word}
+use Rattle.dart_grammar.specs.Shapes.{kind_of, opens_function, parameters_end, parameter_name_end, metadata_end}
 use Rattle.dart_grammar.specs.Trees.{span, name_of, chain_of, joined, has_none, is_super, is_super_at, is_super_head}
 use Rattle.dart_grammar.specs.Grammar as gr
 use Rattle.dart_grammar.specs.Grammar.{start, IsExpr, IsLevel, IsOperated, IsStmt, AreStmts}
@@ -36,12 +34,11 @@ use Rattle.dart_meaning.specs.declared.program.Product.{Product}
 use Rattle.dart_meaning.specs.declared.program.Sign.{Sign}
 use Rattle.dart_meaning.specs.declared.program.Sign.TheVariants.{Plus, Minus}
 use Rattle.dart_meaning.specs.declared.program.Addend.{Addend}
-use Rattle.dart_meaning.specs.declared.program.Sum.{Sum}
 use Rattle.dart_meaning.specs.declared.program.Expression.{Expression}
 use Rattle.dart_meaning.specs.declared.program.Expression.TheVariants as expressions
 use Rattle.dart_meaning.specs.declared.program.Statement.{Statement}
 use Rattle.dart_meaning.specs.declared.program.Statement.TheVariants.{Print, Declare}
-use Rattle.dart_meaning.specs.Program.{Names, Forms, forms_of, operand_form, factors_forms, product_forms, mark_of, addends_forms, expression_forms, statements_forms, program_forms, IsProgram}
+use Rattle.dart_meaning.specs.Program.{Names, Forms, forms_of, operand_form, factors_forms, product_forms, mark_of, addends_forms, expression_forms, statements_forms}
 use Rattle.dart_web_cli.specs.RefusalLaws.{FirstProgramsAreFiles}
 
 -- ---- tokens by their forms

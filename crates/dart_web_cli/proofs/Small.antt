@@ -1,5 +1,5 @@
 -- The numbers, names and texts of a program that was read are in range, and so are those of its translation.
-use Rattle.std.proofs.Common.{◌≡◌, Bool, true, false, ℕ, suc, ◌+◌, ◌*◌, ◌^◌, ◌<◌, ◌≤◌, List, [], ◌∷◌, ◌++◌, length, refl, sym, ap, ◌∙◌, subst, arith, length-append}
+use Rattle.std.proofs.Common.{◌≡◌, Bool, true, false, ℕ, suc, ◌+◌, ◌*◌, ◌^◌, ◌<◌, ◌≤◌, List, [], ◌∷◌, ◌++◌, length, ap, subst, arith, length-append}
 use Rattle.std.proofs.lemmas.Bool.{and_parts}
 use Rattle.std.proofs.lemmas.List.{length-map}
 use Rattle.std.proofs.lemmas.Option.{slice_get_within}
@@ -8,16 +8,14 @@ use Rattle.dart_syntax.specs.declared.tokens.Form.TheVariants as f
 use Rattle.dart_syntax.specs.declared.tokens.Token.{Token}
 use Rattle.dart_meaning.specs.declared.program.Operand.{Operand}
 use Rattle.dart_meaning.specs.declared.program.Operand.TheVariants as dart_operands
-use Rattle.dart_meaning.specs.declared.program.Product.{Product}
 use Rattle.dart_meaning.specs.declared.program.Addend.{Addend}
-use Rattle.dart_meaning.specs.declared.program.Sum.{Sum}
 use Rattle.dart_meaning.specs.declared.program.Expression.{Expression}
 use Rattle.dart_meaning.specs.declared.program.Expression.TheVariants as expressions
 use Rattle.dart_meaning.specs.declared.program.Statement.{Statement}
 use Rattle.dart_meaning.specs.declared.program.Statement.TheVariants as dart_statements
-use Rattle.dart_meaning.specs.Program.{Kinds, Names, Forms, IsText, IsOperand, IsNumeric, AreNumeric, IsProduct, AreAddends, IsSum, IsExpression, is_text, AreWellFormed, factors_forms, addends_forms, expression_forms, statements_forms, IsProgram}
+use Rattle.dart_meaning.specs.Program.{Kinds, Names, Forms, IsText, IsOperand, IsNumeric, AreNumeric, AreAddends, IsSum, IsExpression, is_text, AreWellFormed, factors_forms, addends_forms, expression_forms, statements_forms, IsProgram}
 use Rattle.js_meaning.specs.declared.tree.Operand.{Operand as JsOperand}
-use Rattle.js_meaning.specs.declared.tree.Operand.TheVariants.{Digits, Operation, Variable, Str}
+use Rattle.js_meaning.specs.declared.tree.Operand.TheVariants.{Operation, Str}
 use Rattle.js_meaning.specs.declared.tree.JsStmt.{JsStmt}
 use Rattle.js_meaning.specs.declared.scan.Class.TheVariants.{Character}
 use Rattle.js_meaning.specs.Tokens.{AllIn}

@@ -1,5 +1,5 @@
--- Which rule an entry breaks, and where. Of several broken rules the first one counts, in the order of this page. Places
--- are offsets in bytes.
+-- The first rule that an entry breaks, and where: U1, N2, one of S1 to S7, G2, G1, in this order, so that each is said to be
+-- broken only where none before it is. Places are offsets in bytes.
 use Rattle.std.specs.Prelude.{◌≡◌, ℕ, ◌<◌, ◌≤◌, false, List, length, Some, None}
 use Rattle.outside.specs.Outside.{Held}
 use Rattle.dart_syntax.specs.declared.rules.Rule.{Rule}
@@ -15,11 +15,11 @@ use Rattle.dart_meaning.specs.declared.program.Statement.{Statement}
 use Rattle.dart_meaning.specs.Program.{IsProgram}
 use Rattle.dart_web_cli.specs.declared.load.TheConstants.{MAX_FILE}
 
--- no first program has these tokens
+-- these tokens are no first program
 abbrev pub HasNoProgram : List Token → Type 0
 HasNoProgram tokens = (program : List Statement) → IsProgram tokens program → ⊥
 
--- The rules on the grammar, for a file that isn't the prelude.
+-- Of the tokens of a file that isn't the prelude.
 pub data BreaksGrammar (tokens : List Token) : Rule → ℕ → Type 0 where
   -- the first token that is nested too deep begins there
   too_deep : {at : ℕ} → first_overload tokens ≡ Some at → BreaksGrammar tokens G2 at
@@ -28,14 +28,14 @@ pub data BreaksGrammar (tokens : List Token) : Rule → ℕ → Type 0 where
   -- so far first programs alone are translated
   no_first_program : first_overload tokens ≡ None → HasNoProgram tokens → BreaksGrammar tokens G1 0
 
--- The rules on a file of these bytes.
+-- Of a file of these bytes.
 pub data BreaksFile (bytes : List ℕ) : Rule → ℕ → Type 0 where
   too_long : MAX_FILE < length bytes → BreaksFile bytes N2 0
   -- one of S1 to S7
   on_tokens : {rule : Rule} {at : ℕ} → length bytes ≤ MAX_FILE → IsFirstBroken bytes at rule → BreaksFile bytes rule at
   on_grammar : {tokens : List Token} {rule : Rule} {at : ℕ} → length bytes ≤ MAX_FILE → IsTokens bytes tokens → BreaksGrammar tokens rule at → BreaksFile bytes rule at
 
--- The rules on the entry, where these files are held.
+-- Of the entry, where these files are held.
 pub data IsBroken (files : Held) (entry : List ℕ) : Rule → ℕ → Type 0 where
   absent : files entry ≡ None → IsBroken files entry U1 0
   in_file : {content : List ℕ} {rule : Rule} {at : ℕ} → files entry ≡ Some content → BreaksFile content rule at → IsBroken files entry rule at

@@ -1,4 +1,4 @@
-use Rattle.std.proofs.Common.{refl, ◌≤◌, inl, inr, arith}
+use Rattle.std.proofs.Common.{refl, inl, inr, arith}
 use Rattle.dart_web_cli.specs.declared.top.Status.TheVariants.{Usage}
 use Rattle.dart_web_cli.specs.Answers.{usage_line}
 use Rattle.dart_web_cli.specs.TopCall.{SourceState, SinkState, Call, IsUsage}

@@ -1,8 +1,7 @@
-use Rattle.std.proofs.Common.{◌≡◌, ◌≤◌, arith, ℕ, List, Option, sym, ap, ◌∙◌, subst, inl, inr, refl}
-use Rattle.outside.specs.Outside.{Held}
+use Rattle.std.proofs.Common.{◌≡◌, ◌≤◌, arith, ℕ, ap, inl, inr, refl}
 use Rattle.dart_web_cli.specs.declared.top.Status.TheVariants.{Refused, ReadFault}
 use Rattle.dart_web_cli.specs.Answers.{refused_line, cannot_line}
-use Rattle.dart_web_cli.specs.TopCall.{SourceState, SinkState, Call, IsCauseOf, IsRefused, IsReadFault, Says, SaysFront, SinkStays}
+use Rattle.dart_web_cli.specs.TopCall.{SourceState, SinkState, Call, IsRefused, IsReadFault}
 use Rattle.dart_web_cli.proofs.Finished.{finished}
 use Rattle.dart_web_cli.proofs.top.compile.Goals as goal
 

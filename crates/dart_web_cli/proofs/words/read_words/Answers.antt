@@ -1,4 +1,4 @@
-use Rattle.std.proofs.Common.{rules, ◌≡◌, List, ℕ, length, codes, ap, ◌∙◌, [], ◌∷◌, subst, refl}
+use Rattle.std.proofs.Common.{rules, ◌≡◌, length, codes, ap, ◌∙◌, [], ◌∷◌, subst, refl}
 use Rattle.dart_web_cli.specs.Words.{IsFileWord, IsFlat}
 use Rattle.dart_web_cli.proofs.Lists.{three}
 use Rattle.dart_web_cli.proofs.words.read_words.Goals as goal
