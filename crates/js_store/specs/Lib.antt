@@ -1,0 +1,13 @@
+pub mod Limits
+pub mod Lists
+pub mod Parts
+pub mod Text
+pub mod Values
+pub mod Equality
+pub mod Kept
+pub mod Closure
+pub mod Store
+pub mod Scopes
+pub mod Load
+pub mod Order
+pub mod Host
