@@ -1,4 +1,5 @@
 pub mod Turns
+pub mod AmongSigns
 pub mod Opened
 pub mod Selectors
 pub mod Innermost

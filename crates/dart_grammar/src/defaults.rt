@@ -1,6 +1,7 @@
 //! Where the default of a parameter ends.
 ghost use Rattle.std.specs.Prelude.{◌≡◌, ◌<◌, ◌≤◌, ◌+◌, ◌^◌, false, zero, MatchOption, IfSome};
 ghost use Rattle.dart_grammar.specs.Shapes as spec;
+ghost use Rattle.dart_syntax.specs.declared.tokens.Form.TheVariants as f;
 ghost use Rattle.dart_grammar.specs.Ends.{seen, GoesOn, EndsAt};
 
 use crate::marks::{is_as, is_sign, next};
@@ -18,17 +19,31 @@ struct OpenDefault {
     typed: bool,
 }
 
+// Whether the sign opens a bracket.
+fn is_opening(sign: Sign) -> bool
+    ensures { result ≡ spec.opens (f.Sign sign) }
+{
+    matches!(sign, Sign::OpenParen | Sign::OpenBracket | Sign::OpenBrace)
+}
+
+// Whether the sign closes a bracket.
+fn is_closing(sign: Sign) -> bool
+    ensures { result ≡ spec.closes (f.Sign sign) }
+{
+    matches!(
+        sign,
+        Sign::CloseParen | Sign::CloseBracket | Sign::CloseBrace
+    )
+}
+
 /// Whether the token opens a bracket.
 pub fn opens(form: &Form) -> bool
     ensures { result ≡ spec.opens form.now }
 {
     match form {
         Form::Enter => true,
-        _ => {
-            is_sign(Sign::OpenParen, form)
-                || is_sign(Sign::OpenBracket, form)
-                || is_sign(Sign::OpenBrace, form)
-        }
+        Form::Sign(sign) => is_opening(*sign),
+        _ => false,
     }
 }
 
@@ -38,11 +53,8 @@ pub fn closes(form: &Form) -> bool
 {
     match form {
         Form::Leave => true,
-        _ => {
-            is_sign(Sign::CloseParen, form)
-                || is_sign(Sign::CloseBracket, form)
-                || is_sign(Sign::CloseBrace, form)
-        }
+        Form::Sign(sign) => is_closing(*sign),
+        _ => false,
     }
 }
 

@@ -10,8 +10,8 @@ use dart_syntax::Tokens;
 use std::alloc::Global;
 
 /// The expression that the tokens spell from number `from` on, up to the one end that no joining token follows, and the
-/// number of the first token behind it. The caller makes sure that no token is nested too deep, so that the machine's
-/// stack holds the work.
+/// number of the first token behind it. The caller makes sure that no token is nested too deep. What begins anew behind a
+/// `;` or a `}` may nest deeper in the tree, as deep as the machine's stack holds.
 ///
 /// Errors: [`SyntaxFault::NotDerived`] where no expression stands there, at the place 0 so far; [`SyntaxFault::Memory`].
 /// [`SyntaxFault::TooDeep`] never comes.
