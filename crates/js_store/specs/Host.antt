@@ -4,9 +4,9 @@ use Rattle.std.specs.Prelude.{ℕ, ◌%◌, Bool, true, false, List, [], ◌∷�
 use Rattle.std.specs.Option.{unwrap_or}
 use Rattle.std.specs.Map.{lookup, keys_of}
 use Rattle.indexmap.specs.IndexMap.{insert_entry}
-use Rattle.js_store.specs.Text.{Text, same_text}
+use Rattle.store_lists.specs.Text.{Text, same_text}
 use Rattle.js_store.specs.Load.{Load}
-use Rattle.js_store.specs.Order.{next_number, further_numbers}
+use Rattle.store_lists.specs.Order.{next_number, further_numbers}
 use Rattle.js_store.specs.declared.host.Host.{Host}
 
 -- asked is in order of asking; order has the numbers that are left; files has each file's name, and whether it has run

@@ -1,13 +1,8 @@
-pub mod Limits
-pub mod Lists
-pub mod Parts
-pub mod Text
+pub mod Names
 pub mod Values
 pub mod Equality
-pub mod Kept
 pub mod Closure
 pub mod Store
 pub mod Scopes
 pub mod Load
-pub mod Order
 pub mod Host

@@ -1,7 +1,7 @@
 -- A load that is asked for: the names of its files, what is called when it completes, and the file and the place of the
 -- statement that asked.
 use Rattle.std.specs.Prelude.{ℕ, List}
-use Rattle.js_store.specs.Text.{Text}
+use Rattle.store_lists.specs.Text.{Text}
 use Rattle.js_store.specs.declared.value.Value.{Value}
 
 pub record Load : Type 0 where

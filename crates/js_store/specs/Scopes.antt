@@ -4,9 +4,9 @@ use Rattle.std.specs.Prelude.{ℕ, Bool, List, [], ◌∷◌, ◌++◌, Option, 
 use Rattle.std.specs.Option.{is_some}
 use Rattle.std.specs.Map.{lookup}
 use Rattle.indexmap.specs.IndexMap.{insert_entry}
-use Rattle.js_store.specs.Text.{Name, same_name}
+use Rattle.js_store.specs.Names.{Name, same_name}
 use Rattle.js_store.specs.Closure.{Env}
-use Rattle.js_store.specs.Lists.{list_at}
+use Rattle.store_lists.specs.Lists.{list_at}
 use Rattle.js_store.specs.declared.value.Value.{Value}
 use Rattle.js_store.specs.declared.value.Value.TheVariants.{Host}
 use Rattle.js_store.specs.declared.store.Store.{Store}

@@ -5,8 +5,8 @@ use Rattle.std.specs.Prelude.{ℕ, ℤ, Bool, List, [], ◌∷◌, ◌++◌, Opt
 use Rattle.std.specs.Option.{unwrap_or, is_some}
 use Rattle.std.specs.Map.{lookup, remove_entry, keys_of}
 use Rattle.indexmap.specs.IndexMap.{insert_entry}
-use Rattle.js_store.specs.Lists.{list_at, item_at, set_item, last_item, all_but_last}
-use Rattle.js_store.specs.Text.{Text, same_text}
+use Rattle.store_lists.specs.Lists.{list_at, item_at, set_item, last_item, all_but_last}
+use Rattle.store_lists.specs.Text.{Text, same_text}
 use Rattle.js_store.specs.Values.{same}
 use Rattle.js_store.specs.Closure.{Closure}
 use Rattle.js_store.specs.declared.value.Value.{Value}

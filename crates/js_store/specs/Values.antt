@@ -1,7 +1,7 @@
 -- Values: `===` on them, their words for `typeof`, and truth.
 use Rattle.std.specs.Prelude.{◌==◌, Bool, true, false, Option, Some, None, codes}
 use Rattle.std.specs.Ordering.{int_eq}
-use Rattle.js_store.specs.Text.{Text, same_text}
+use Rattle.store_lists.specs.Text.{Text, same_text}
 use Rattle.js_store.specs.declared.value.Value.{Value}
 use Rattle.js_store.specs.declared.value.Value.TheVariants.{Undefined, Null, Bool as Truth, Number, Str, Object, Array, Map, Function, Host}
 

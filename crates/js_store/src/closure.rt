@@ -2,12 +2,12 @@
 
 ghost use Rattle.std.specs.Prelude.{◌≡◌, [], ◌∷◌, IfOk};
 
-use crate::share::Share;
 use bumpalo::Bump;
 use bumpalo::collections::into_bump_slice;
 use js_tree::JsFunction;
 use std::alloc::AllocError;
 use std::marker::Model;
+use store_lists::Share;
 
 /// The scopes around what runs, seen as the list of their addresses, the innermost first. The top scope, which is around
 /// them all, is not in it.

@@ -3,18 +3,17 @@
 ghost use Rattle.std.specs.Prelude.{◌≡◌, OnOk};
 ghost use Rattle.js_store.specs.Host.{starts, ask, next_load, complete, file_number, has_run, note_run};
 
-use crate::host::{Asked, Host, Load, Order};
-use crate::pairs::Pairs;
-use crate::text::JsText;
+use crate::host::{Host, Load};
 use std::alloc::{AllocError, Global};
+use store_lists::{Order, Pairs, SharedText, Waiting};
 
 impl<'a> Host<'a> {
     /// No load is asked for, and these are the files, of which none has run.
-    pub fn new(alloc: Global, files: Pairs<JsText<'a>, bool>, order: &'a [u32]) -> Host<'a>
+    pub fn new(alloc: Global, files: Pairs<SharedText<'a>, bool>, order: &'a [u32]) -> Host<'a>
         ensures { result ≡ starts files.entry order.now }
     {
         Host {
-            asked: Asked::new(alloc),
+            asked: Waiting::new(alloc),
             order: Order::new(order),
             files,
         }
@@ -37,18 +36,18 @@ impl<'a> Host<'a> {
             return None;
         }
         let number = self.order.take() as usize;
-        self.asked.remove(number % count)
+        self.asked.take(number % count)
     }
 
     /// The number of the file of a name.
-    pub fn file_number(&self, name: &JsText<'a>) -> Option<usize>
+    pub fn file_number(&self, name: &SharedText<'a>) -> Option<usize>
         ensures { result ≡ file_number self.now name.now }
     {
         self.files.position(name)
     }
 
     /// Whether the file of a name has run.
-    pub fn has_run(&self, name: &JsText<'a>) -> bool
+    pub fn has_run(&self, name: &SharedText<'a>) -> bool
         ensures { result ≡ has_run self.now name.now }
     {
         match self.files.get(name) {
@@ -58,7 +57,7 @@ impl<'a> Host<'a> {
     }
 
     /// Notes that the file of a name has run.
-    pub fn note_run(&mut self, name: JsText<'a>) -> Result<(), AllocError>
+    pub fn note_run(&mut self, name: SharedText<'a>) -> Result<(), AllocError>
         ensures { OnOk result (self.new ≡ note_run self.old name.entry) }
     {
         self.files.put(name, true)

@@ -6,18 +6,14 @@ ghost use Rattle.js_store.specs.declared.value.Value.TheVariants.{Object, Array,
 ghost use Rattle.js_store.specs.Store.{empty, properties, with_object, read_property, write_property, elements, with_array, read_element, write_element, push_element, popped_element, pop_element, entries, with_map, read_entry, has_entry, write_entry, remove_key, keys, closure, with_function};
 ghost use Rattle.js_store.specs.Scopes.{enter, inside, look_up, assign, initialise, set_top, is_declared};
 
-use crate::changes;
 use crate::closure::{Closure, Env};
-use crate::entries::Entries;
 use crate::names::Name;
-use crate::pairs::Pairs;
-use crate::share::Share;
-use crate::slots::Slots;
+use crate::scopes;
 use crate::store::{Properties, Scope, Store};
-use crate::text::JsText;
 use crate::value::Value;
 use bumpalo::Bump;
 use std::alloc::{AllocError, Global};
+use store_lists::{Entries, Pairs, Share, SharedText, Slots, changes};
 
 impl<'a> Store<'a> {
     /// A store with nothing in it.
@@ -45,7 +41,7 @@ impl<'a> Store<'a> {
     }
 
     /// The value of a property of the object at an address; undefined where it has none.
-    pub fn read_property(&self, object: usize, key: &JsText<'a>) -> Value<'a>
+    pub fn read_property(&self, object: usize, key: &SharedText<'a>) -> Value<'a>
         ensures { result ≡ read_property self.now object key.now }
     {
         match self.objects.get(object) {
@@ -61,7 +57,7 @@ impl<'a> Store<'a> {
     pub fn write_property(
         &mut self,
         object: usize,
-        key: JsText<'a>,
+        key: SharedText<'a>,
         value: Value<'a>,
     ) -> Result<(), AllocError>
         ensures { OnOk result (self.new ≡ write_property self.old object key.entry value.entry) }
@@ -234,7 +230,7 @@ impl<'a> Store<'a> {
     pub fn look_up(&self, env: &Env<'a>, name: &Name<'a>) -> Option<Value<'a>>
         ensures { result ≡ look_up self.now env.now name.now }
     {
-        changes::look_up_in(self, env.scopes(), name)
+        scopes::look_up_in(self, env.scopes(), name)
     }
 
     /// Gives a name another value, and tells whether it did; where the name is absent or its `let` has not run, nothing
@@ -248,7 +244,7 @@ impl<'a> Store<'a> {
         ensures result { IfOk result (λ done. done ≡ is_some (assign self.old env.now name.now value.entry)) }
         ensures store { OnOk result (self.new ≡ unwrap_or (assign self.old env.now name.now value.entry) self.old) }
     {
-        changes::assign_in(self, env.scopes(), name, value)
+        scopes::assign_in(self, env.scopes(), name, value)
     }
 
     /// Gives a name of the innermost scope the value of its `let`, or of its `var`.

@@ -6,11 +6,11 @@ ghost use Rattle.std.specs.Cmp.Lexicographic.{nat_list_eq_equiv};
 ghost use Rattle.std.specs.Cmp.{partial_equiv_from_equiv};
 ghost use Rattle.std.specs.Cmp.Rules.{hashing};
 ghost use Rattle.std.proofs.Common.{rules};
-ghost use Rattle.js_store.specs.Text.{same_name};
+ghost use Rattle.js_store.specs.Names.{same_name};
 
-use crate::share::Share;
 use std::hash::{Hash, Hasher};
 use std::marker::Model;
+use store_lists::Share;
 
 /// A name of the program, seen as its bytes.
 #[derive(Drop)]

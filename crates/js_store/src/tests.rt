@@ -1,4 +1,4 @@
-use super::{Entries, Env, JsText, Name, Pairs, Scope, Share, Slots, Store, Value};
+use super::{Entries, Env, Name, Pairs, Scope, Share, SharedText, Slots, Store, Value};
 use bumpalo::Bump;
 use std::alloc::{AllocError, Global};
 use std::process::Abort;
@@ -57,8 +57,8 @@ fn keys_of_each_kind(rt: HostRuntime) -> Result<(), Fail> {
         Value::Null,
         Value::Bool(false),
         Value::Number(0),
-        Value::Str(JsText::new(&[])),
-        Value::Str(JsText::new(&[48])),
+        Value::Str(SharedText::new(&[])),
+        Value::Str(SharedText::new(&[48])),
         Value::Object(0),
         Value::Array(0),
         Value::Map(0),
@@ -122,52 +122,5 @@ fn the_name_of_the_host(rt: HostRuntime) -> Result<(), Fail> {
     let store = Store::new(rt.alloc());
     let value = store.look_up(&Env::top(), &Name::new(b"host$"));
     assert!(&rt; matches!(&value, Some(Value::Host)), "not the host");
-    Ok(())
-}
-
-// ---- texts
-
-fn ten_times<'a>(arena: &'a Bump, count: u32) -> Result<JsText<'a>, AllocError> {
-    let piece = JsText::new(&[48, 49, 50, 51, 52, 53, 54, 55, 56, 57]);
-    let mut text = JsText::new(&[]);
-    for _ in 0..count {
-        text = text.joined(arena, &piece)?;
-    }
-    Ok(text)
-}
-
-fn has_unit(text: &JsText, index: i64, wanted: u16) -> bool {
-    match text.unit(index) {
-        Some(unit) => unit == wanted,
-        None => false,
-    }
-}
-
-#[test]
-fn a_long_text(rt: HostRuntime) -> Result<(), Fail> {
-    let arena = Bump::new(rt.alloc());
-    let text = ten_times(&arena, 1000)?;
-    let other = ten_times(&arena, 1000)?;
-    assert!(&rt; text.len() == 10000 && text == other, "not the same text");
-    assert!(&rt; has_unit(&text, 4321, 49), "not its unit");
-    assert!(&rt;
-        text.unit(10000).is_none() && text.unit(-1).is_none(),
-        "a unit out of range"
-    );
-    Ok(())
-}
-
-#[test]
-fn a_part_of_a_long_text(rt: HostRuntime) -> Result<(), Fail> {
-    let arena = Bump::new(rt.alloc());
-    let text = ten_times(&arena, 100)?;
-    let part = match text.part(&arena, 3, 998)? {
-        Some(part) => part,
-        None => JsText::new(&[]),
-    };
-    assert!(&rt;
-        part.len() == 995 && has_unit(&part, 500, 51),
-        "not the part"
-    );
     Ok(())
 }

@@ -2,20 +2,8 @@
 
 ghost use Rattle.std.specs.Prelude.{◌≡◌};
 ghost use Rattle.js_store.specs.Values.{truth_of, type_word};
-ghost use Rattle.js_store.specs.Limits.{is_length};
 
-use crate::share::Share;
-use crate::text::JsText;
-
-/// The greatest number; the least one is its negative. No text, array or map has more entries.
-pub const MAX_NUMBER: i64 = 9_007_199_254_740_991;
-
-/// Whether a text, an array or a map may have so many entries.
-pub fn is_length(count: u64) -> bool
-    ensures { result ≡ is_length count }
-{
-    count <= MAX_NUMBER as u64
-}
+use store_lists::{Share, SharedText};
 
 /// A value. What has an address is a place in the store.
 #[derive(Drop)]
@@ -25,7 +13,7 @@ pub enum Value<'a> {
     Bool(bool),
     /// A whole number, at most 2^53 - 1 away from 0.
     Number(i64),
-    Str(JsText<'a>),
+    Str(SharedText<'a>),
     /// The object at this address.
     Object(usize),
     /// The array at this address.
@@ -57,16 +45,16 @@ impl<'a> Share for Value<'a> {
 
 impl<'a> Value<'a> {
     /// What `typeof` gives (ECMA-262, 13.5.3).
-    pub fn type_word(&self) -> JsText<'a>
+    pub fn type_word(&self) -> SharedText<'a>
         ensures { result ≡ type_word self.now }
     {
         match self {
-            Value::Undefined => JsText::new(&[117, 110, 100, 101, 102, 105, 110, 101, 100]),
-            Value::Bool(_) => JsText::new(&[98, 111, 111, 108, 101, 97, 110]),
-            Value::Number(_) => JsText::new(&[110, 117, 109, 98, 101, 114]),
-            Value::Str(_) => JsText::new(&[115, 116, 114, 105, 110, 103]),
-            Value::Function(_) => JsText::new(&[102, 117, 110, 99, 116, 105, 111, 110]),
-            _ => JsText::new(&[111, 98, 106, 101, 99, 116]),
+            Value::Undefined => SharedText::new(&[117, 110, 100, 101, 102, 105, 110, 101, 100]),
+            Value::Bool(_) => SharedText::new(&[98, 111, 111, 108, 101, 97, 110]),
+            Value::Number(_) => SharedText::new(&[110, 117, 109, 98, 101, 114]),
+            Value::Str(_) => SharedText::new(&[115, 116, 114, 105, 110, 103]),
+            Value::Function(_) => SharedText::new(&[102, 117, 110, 99, 116, 105, 111, 110]),
+            _ => SharedText::new(&[111, 98, 106, 101, 99, 116]),
         }
     }
 

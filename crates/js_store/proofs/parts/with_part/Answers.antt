@@ -1,9 +1,0 @@
-use mathlib.Core.Path.{ap, ◌∙◌}
-use Rattle.js_store.specs.Parts.{flat}
-use Rattle.js_store.proofs.Units.{pushed_last}
-use Rattle.js_store.proofs.parts.with_part.Goals as goal
-
-pub returns : goal.returns
-returns c =
-    ap flat (c.into_bump_slice.ensures ∙ c.in_ok-push-2.ensures.items)
-    ∙ pushed_last c.args.front.now c.loop-part.parts.items c.loop-part.part-index c.args.last.now c.loop-part-test.false c.loop-part.invariant

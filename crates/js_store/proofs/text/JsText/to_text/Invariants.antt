@@ -1,6 +1,0 @@
-use Rattle.std.proofs.Common.{◌≡◌, ◌++◌, drop}
-use Rattle.js_store.specs.Parts.{flat}
-use Rattle.js_store.proofs.text.JsText.to_text.Given as goal
-
-abbrev pub invariant-loop-part : goal.invariant-loop-part
-invariant-loop-part l = l.text ++ flat (drop l.part-index l.part-items) ≡ flat l.part-items
