@@ -1,1 +1,13 @@
 pub mod Natives
+pub mod Values
+pub mod Equality
+pub mod Store
+pub mod Variables
+pub mod Events
+pub mod Functions
+pub mod Answers
+pub mod Numbers
+pub mod Texts
+pub mod Lists
+pub mod Maps
+pub mod Table
