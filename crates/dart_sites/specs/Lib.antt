@@ -1,0 +1,12 @@
+pub mod Names
+pub mod Scopes
+pub mod Surroundings
+pub mod Sites
+pub mod Expressions
+pub mod Functions
+pub mod Statements
+pub mod Trees
+pub mod Files
+pub mod Visits
+pub mod Walks
+pub mod Listing

@@ -1,0 +1,5 @@
+mod Examples
+mod Steps
+mod Variables
+mod Firsts
+mod Rivals

@@ -1,0 +1,10 @@
+pub mod Names
+pub mod Libraries
+pub mod Reading
+pub mod Lookups
+pub mod Uses
+pub mod Least
+pub mod Taken
+pub mod Doubling
+pub mod Rules
+pub mod First
