@@ -1,0 +1,97 @@
+//! Reads the files that the arguments name behind a command and a number, the entry first, and does as the command says.
+//!
+//! `read` says how many declarations the last file has. `resolve` also finds what names mean in the libraries of the files,
+//! and says how many these are. `look` then looks up so many names in the entry, and `behind` behind the first prefix: those
+//! that the last file declares, over and over. Both say how many were found. It ends with status 1 and the reason where the
+//! words are others, a file can't be read, the files are no program, or they break a rule of libraries.
+#![tactic(auto)]
+
+use anyhow::{Context, Result, bail};
+use code_units::{Bytes, Files, NamedFile, Text};
+use dart_grammar::declarations::Declaration;
+use dart_program::Program;
+use library_scopes::{Scopes, resolve};
+use scope_rows::programs::program;
+use std::{env, fs};
+
+// The name that a declaration gives, where it gives one.
+fn name_of(declaration: &Declaration) -> Option<&Text> {
+    match declaration {
+        Declaration::Class(class) => Some(&class.name.text),
+        Declaration::Alias(alias) => Some(&alias.name.text),
+        Declaration::Function(function) => Some(&function.name.text),
+        Declaration::Getter(getter) => Some(&getter.name.text),
+        Declaration::Setter(setter) => Some(&setter.name.text),
+        Declaration::Variables(_, _) => None,
+    }
+}
+
+// What the last file declares.
+fn last_declarations(program: &Program) -> &[Declaration] {
+    match program.files().as_slice().last() {
+        Some(file) => file.tree.declarations.as_slice(),
+        None => &[],
+    }
+}
+
+// Whether the name means something in the entry, or behind the first prefix.
+fn is_found(scopes: &Scopes, is_behind: bool, name: &Text) -> bool {
+    if is_behind {
+        scopes.behind(0, name).is_some()
+    } else {
+        scopes.lookup(1, name).is_some()
+    }
+}
+
+// Of so many look-ups of what is declared, over and over, how many find something.
+fn found(scopes: &Scopes, is_behind: bool, declarations: &[Declaration], count: u64) -> u64 {
+    let mut found: u64 = 0;
+    let mut rest = declarations;
+    for _ in 0..count {
+        if rest.is_empty() {
+            rest = declarations;
+        }
+        if let Some((declaration, more)) = rest.split_first() {
+            rest = more;
+            if let Some(name) = name_of(declaration)
+                && is_found(scopes, is_behind, name)
+            {
+                found = found.wrapping_add(1);
+            }
+        }
+    }
+    found
+}
+
+fn main(rt: HostRuntime) -> Result<()> {
+    let mut words = env::args(&rt)?.skip(1);
+    let command = words.next().context("no command is given")?;
+    let count = words.next().context("no number is given")?;
+    let count: u64 = count.as_str().parse()?;
+    let mut files = Files::new(rt.alloc());
+    for word in words {
+        files.push(NamedFile {
+            name: Text::from_str(rt.alloc(), word.as_str())?,
+            bytes: Bytes::from_vec(fs::read(&rt, word.as_str())?),
+        })?;
+    }
+    let program = program(rt.alloc(), &files)?;
+    let declarations = last_declarations(&program);
+    match command.as_str() {
+        "read" => println!(rt; "{} declarations", declarations.len())?,
+        "resolve" => {
+            let scopes = resolve(rt.alloc(), &program)?;
+            println!(rt; "{} libraries", scopes.libraries.len())?;
+        }
+        "look" => {
+            let scopes = resolve(rt.alloc(), &program)?;
+            println!(rt; "{} found", found(&scopes, false, declarations, count))?;
+        }
+        "behind" => {
+            let scopes = resolve(rt.alloc(), &program)?;
+            println!(rt; "{} found", found(&scopes, true, declarations, count))?;
+        }
+        _ => bail!("the commands are `read`, `resolve`, `look` and `behind`"),
+    }
+    Ok(())
+}
