@@ -1,0 +1,10 @@
+pub mod Ranges
+pub mod Settle
+pub mod Loops
+pub mod Depth
+pub mod Events
+pub mod Whole
+pub mod Runs
+pub mod Rebuilt
+pub mod Layers
+pub mod Entries

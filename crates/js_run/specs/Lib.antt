@@ -1,0 +1,15 @@
+pub mod Machine
+pub mod Steps
+pub mod Prog
+pub mod Operators
+pub mod Parts
+pub mod Stored
+pub mod Expressions
+pub mod Trees
+pub mod Statements
+pub mod Calls
+pub mod Files
+pub mod Meaning
+pub mod Nests
+pub mod Conclusions
+pub mod Laws
