@@ -23,8 +23,6 @@ mod parameters;
 mod runs;
 pub mod shapes;
 pub mod spans;
-#[cfg(test)]
-mod tests;
 pub mod trees;
 mod types;
 

@@ -18,8 +18,6 @@ pub mod numbers;
 mod objects;
 pub mod store;
 pub mod table;
-#[cfg(test)]
-mod tests;
 pub mod texts;
 pub mod value;
 

@@ -13,8 +13,6 @@ mod levels;
 mod numbers;
 pub mod scanner;
 mod steps;
-#[cfg(test)]
-mod tests;
 mod texts;
 mod units;
 

@@ -12,10 +12,6 @@ mod head;
 mod imports;
 pub mod laws;
 mod members;
-#[cfg(test)]
-mod outline;
 pub mod parse;
-#[cfg(test)]
-mod tests;
 
 pub use parse::parse_file;

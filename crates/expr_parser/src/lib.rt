@@ -21,11 +21,7 @@ mod operators;
 mod parameters;
 pub mod parse;
 pub mod parts;
-#[cfg(test)]
-mod shown;
 mod statements;
-#[cfg(test)]
-mod tests;
 mod texts;
 pub mod types;
 

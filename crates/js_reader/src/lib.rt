@@ -24,6 +24,3 @@ mod words;
 
 pub use fault::JsFault;
 pub use read::{one_fault, one_token_list, one_tree, printed_is_read_back, read_file};
-
-#[cfg(test)]
-mod tests;

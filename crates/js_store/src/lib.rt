@@ -14,8 +14,6 @@ mod methods;
 mod names;
 mod scopes;
 pub mod store;
-#[cfg(test)]
-mod tests;
 pub mod value;
 
 pub use closure::{Closure, Env};

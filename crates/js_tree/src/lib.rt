@@ -8,8 +8,6 @@
 
 pub mod laws;
 mod print;
-#[cfg(test)]
-mod tests;
 pub mod tree;
 pub mod words;
 

@@ -14,8 +14,6 @@ pub mod pairs;
 mod parts;
 pub mod share;
 pub mod slots;
-#[cfg(test)]
-mod tests;
 pub mod text;
 pub mod waiting;
 

@@ -1,7 +1,7 @@
 // What no clause says: that reading succeeds with ample memory, and the subset by example. What is expected was written by
 // hand from the grammar. In a file that has none, `^` marks where it leaves all that have a tree; it is no part of the
 // file.
-use super::{JsFault, one_fault, one_token_list, one_tree, printed_is_read_back, read_file};
+use js_reader::{JsFault, one_fault, one_token_list, one_tree, printed_is_read_back, read_file};
 use js_tree::{JsExpr, JsFile, JsHead, JsItem, JsPrimary, JsStmt, print_file};
 use std::alloc::{AllocError, Global};
 use std::test::Fail;

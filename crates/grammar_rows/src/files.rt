@@ -1,13 +1,13 @@
 // What no clause says: that parsing succeeds with ample memory, and the grammar of files by example. What is expected was
 // written by hand from the grammar.
-use crate::laws::one_file;
 use crate::outline::outline;
-use crate::parse::parse_file;
 use dart_grammar::FileTree;
 use dart_grammar::declarations::Declaration;
 use dart_grammar::trees::{Body, Stmt};
 use dart_syntax::{Rule, Tokens};
 use dart_tokens::{ScanError, scan};
+use decl_parser::laws::one_file;
+use decl_parser::parse_file;
 use expr_parser::SyntaxFault;
 use std::alloc::{AllocError, Global};
 use std::test::Fail;

@@ -1,8 +1,8 @@
 // What no clause says: that scanning succeeds with ample memory, and the rows of the token table by example. What is
 // expected was written by hand from the table.
-use crate::scanner::{ScanError, scan};
 use code_units::Text;
 use dart_syntax::{Form, Rule, Tokens};
+use dart_tokens::{ScanError, scan};
 use std::alloc::{AllocError, Global};
 use std::test::Fail;
 

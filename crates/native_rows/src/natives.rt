@@ -1,11 +1,11 @@
 // What no clause says: how natives are spelled, and that calls with ample memory succeed. The rows are those of the table of
 // natives, from both sides of each check.
-use crate::natives::NATIVES;
-use crate::{
+use bumpalo::Bump;
+use dart_store::natives::NATIVES;
+use dart_store::{
     Applied, Asked, Function, Functions, Native, Static, Store, Thrower, Value, apply_native,
     make_function, printed,
 };
-use bumpalo::Bump;
 use std::alloc::{AllocError, Global};
 use std::test::Fail;
 use store_lists::{MAX_NUMBER, Share, SharedText, Slots};

@@ -1,12 +1,11 @@
 // What no clause says: that parsing succeeds with ample memory, and the grammar by example. What is expected was written by
 // hand from the grammar.
-use crate::fault::SyntaxFault;
-use crate::parse::parse_expression;
 use crate::shown::shown;
 use dart_grammar::Expr;
 use dart_grammar::loads::first_overload;
 use dart_syntax::Tokens;
 use dart_tokens::{ScanError, scan};
+use expr_parser::{SyntaxFault, parse_expression};
 use std::alloc::Global;
 use std::test::Fail;
 

@@ -1,8 +1,8 @@
 // What no clause says: that calls with ample memory succeed, and how numbers are spelled.
-use crate::{MAX_NUMBER, Order, Pairs, SharedText, Slots, Waiting, changes, in_range};
 use bumpalo::Bump;
 use std::alloc::{AllocError, Global};
 use std::test::Fail;
+use store_lists::{MAX_NUMBER, Order, Pairs, SharedText, Slots, Waiting, changes, in_range};
 
 #[test]
 fn numbers_in_range(rt: HostRuntime) -> Result<(), Fail> {

@@ -1,5 +1,5 @@
-use super::{Entries, Env, Name, Pairs, Scope, Share, SharedText, Slots, Store, Value};
 use bumpalo::Bump;
+use js_store::{Entries, Env, Name, Pairs, Scope, Share, SharedText, Slots, Store, Value};
 use std::alloc::{AllocError, Global};
 use std::process::Abort;
 use std::test::Fail;

@@ -1,4 +1,4 @@
-use super::{
+use js_tree::{
     JsExpr, JsFile, JsFunction, JsHead, JsItem, JsOperator, JsPrimary, JsSelector, JsStmt,
     print_file,
 };

@@ -1,13 +1,15 @@
 // What no clause says: how small sources are told apart, by example. What is expected was written by hand.
-use crate::kinds::{ForKind, Kind};
-use crate::loads::first_overload;
-use crate::marks::{joins, looseness, next_text_open};
-use crate::shapes::{begins_clause, begins_map, begins_type, for_kind_of, kind_of, opens_function};
-use crate::spans::{
+use code_units::Text;
+use dart_grammar::kinds::{ForKind, Kind};
+use dart_grammar::loads::first_overload;
+use dart_grammar::marks::{joins, looseness, next_text_open};
+use dart_grammar::shapes::{
+    begins_clause, begins_map, begins_type, for_kind_of, kind_of, opens_function,
+};
+use dart_grammar::spans::{
     fits, head_span, is_super, joined, selectors_end, span_of, stmt_span, target_span,
 };
-use crate::trees::{Chain, Expr, Head, Name, Operator, Span, Stmt, Target};
-use code_units::Text;
+use dart_grammar::trees::{Chain, Expr, Head, Name, Operator, Span, Stmt, Target};
 use dart_syntax::Tokens;
 use dart_tokens::{ScanError, scan};
 use sqlite_items::{Boxed, Items};
@@ -132,7 +134,7 @@ fn the_first_overload_is_found(rt: HostRuntime) -> Result<(), Fail> {
 fn chain_of(
     alloc: Global,
     head: Head,
-    selectors: Items<crate::trees::Selector>,
+    selectors: Items<dart_grammar::trees::Selector>,
 ) -> Result<Expr, AllocError> {
     let span = head_span(&head);
     let chain = Chain {
