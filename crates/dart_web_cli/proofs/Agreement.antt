@@ -1,13 +1,10 @@
 -- A first program and its translation come to one conclusion.
-use Rattle.std.proofs.Common.{◌≡◌, ℕ, zero, suc, ◌+◌, ◌<◌, Bool, true, false, List, [], ◌∷◌, ◌++◌, length, map, get_or, Option, Some, None, refl, sym, ap, ◌∙◌, subst, inl, inr, ⊎_elim, ◌⊎◌, arith, length-append, append_assoc, append-nil}
-use Rattle.std.specs.Prelude.{ℤ, pos, ◌*ℤ◌, slice_get}
+use Rattle.std.proofs.Common.{◌≡◌, ℕ, zero, suc, ◌+◌, ◌<◌, ◌≤◌, ◌^◌, Bool, true, false, List, [], ◌∷◌, ◌++◌, length, map, get_or, Option, Some, None, refl, sym, ap, ◌∙◌, subst, inl, inr, ⊎_elim, ◌⊎◌, arith, length-append}
+use Rattle.std.specs.Prelude.{ℤ, pos, ◌*ℤ◌, slice_get, codes}
 use Rattle.std.specs.Option.{option_map}
 use Rattle.std.proofs.lemmas.Option.{slice_get-map, slice_get-get_or, get_or_from_slice_get}
-use Rattle.meanings.specs.Act.{Halt, Left, Stuck, fin, sub, ActOf}
-use Rattle.meanings.specs.Runs.{SameRun}
-use Rattle.meanings.specs.Ends.{Done, Halted}
-use Rattle.meanings.proofs.Further.{is_meaning}
-use Rattle.meanings.proofs.Conclusions.{Comes, Cuts, comes_fin, cuts_quit, comes_bind, cuts_first, cuts_then, comes_sub, cuts_sub, comes_run, cuts_run, one_conclusion}
+use Rattle.meanings.specs.Act.{Left, fin, sub, ActOf}
+use Rattle.meanings.proofs.Conclusions.{Comes, Cuts, comes_fin, cuts_quit, comes_bind, cuts_first, cuts_then, comes_sub, cuts_sub}
 use Rattle.dart_meaning.specs.declared.program.Operand.{Operand}
 use Rattle.dart_meaning.specs.declared.program.Operand.TheVariants as dart_operands
 use Rattle.dart_meaning.specs.declared.program.Sign.{Sign}
@@ -18,40 +15,40 @@ use Rattle.dart_meaning.specs.declared.program.Expression.{Expression}
 use Rattle.dart_meaning.specs.declared.program.Expression.TheVariants as expressions
 use Rattle.dart_meaning.specs.declared.program.Statement.{Statement}
 use Rattle.dart_meaning.specs.declared.program.Statement.TheVariants as dart_statements
-use Rattle.dart_meaning.specs.Program.{Kinds, Names, IsOperand, IsNumeric, AreNumeric, AreAddends, IsSum, IsExpression, lone, is_text_name, is_text, AreWellFormed, IsWellFormed}
+use Rattle.dart_meaning.specs.Program.{Kinds, Names, IsOperand, IsNumeric, AreNumeric, AreAddends, IsSum, IsExpression, lone, is_text_name, is_text, AreWellFormed}
 use Rattle.dart_meaning.specs.Meaning as source
-use Rattle.dart_meaning.specs.Meaning.{Datum, Whole, Letters, Store, First, operand_value, number_in, product_from, product_value, signed, sum_from, sum_value, lone_or_sum, expression_value, ◌>>=◌}
-use Rattle.js_meaning.specs.declared.tree.Operand.{Operand as JsOperand}
-use Rattle.js_meaning.specs.declared.tree.Operand.TheVariants.{Digits, Operation, Variable, Str}
-use Rattle.js_meaning.specs.declared.tree.Operator.{Operator}
-use Rattle.js_meaning.specs.declared.tree.Operator.TheVariants.{Times}
-use Rattle.js_meaning.specs.declared.tree.JsStmt.{JsStmt}
-use Rattle.js_meaning.specs.declared.tree.JsStmt.TheVariants.{Let, Var, Print, PrintStr}
-use Rattle.js_meaning.specs.declared.value.Value.{Value}
-use Rattle.js_meaning.specs.declared.value.Value.TheVariants.{Number, Characters}
-use Rattle.js_meaning.specs.declared.value.Store.{Store as JsStore}
-use Rattle.js_meaning.specs.Spelling.{without_place}
-use Rattle.js_meaning.specs.Meaning as target
-use Rattle.js_meaning.specs.Meaning.{Js, js, value_of, with_value, result_of, arithmetic, number_given, in_range, with_operation, with_variable, declares, body}
-use Rattle.dart_web_cli.specs.Translation.{operand_of, operator_of, Behind, product_then, addends_then, expression_then, print_of, statements_from, file_of, served}
+use Rattle.dart_meaning.specs.Meaning.{Datum, Whole, Letters, Store, First, operand_value, number_in, product_from, signed, sum_from, sum_value, lone_or_sum, expression_value, ◌>>=◌}
+use Rattle.js_tree.specs.declared.tree.JsExpr.{JsExpr}
+use Rattle.js_tree.specs.declared.tree.JsExpr.TheVariants as e
+use Rattle.js_tree.specs.declared.tree.JsHead.TheVariants as h
+use Rattle.js_tree.specs.declared.tree.JsSelector.TheVariants as l
+use Rattle.js_tree.specs.declared.tree.JsPrimary.{JsPrimary}
+use Rattle.js_tree.specs.declared.tree.JsStmt.{JsStmt}
+use Rattle.js_tree.specs.declared.tree.JsStmt.TheVariants as s
+use Rattle.js_tree.specs.declared.words.JsMember.TheVariants as m
+use Rattle.js_tree.specs.declared.words.JsOperator.{JsOperator}
+use Rattle.js_tree.specs.declared.words.JsOperator.TheVariants as o
+use Rattle.js_tree.specs.Places.{primary_without_places, expr_without_places, stmt_without_places}
+use Rattle.js_store.specs.Scopes.{Scope, bind}
+use Rattle.js_store.specs.declared.value.Value.{Value}
+use Rattle.js_store.specs.declared.value.Value.TheVariants.{Null, Number, Str, Host}
+use Rattle.js_run.specs.declared.state.Leave.TheVariants.{Return}
+use Rattle.dart_web_cli.specs.Translation.{operation_name, variable_name, alone, host_print, string_of, operation_let, variable_let, operand_of, operator_of, operation, Behind, product_then, addends_then, expression_then, printed_of, print_of, statements_from}
+use Rattle.dart_web_cli.proofs.Leading.{Leads, Ends, cut, left_by, stays, leads_on, leads_over}
+use Rattle.dart_web_cli.proofs.Places as places
+use Rattle.dart_web_cli.proofs.Places.{IsPlaceless, Begins, begins_with_let, begins_with_perform, begins_with_return}
+use Rattle.dart_web_cli.proofs.Body.{IsBody, past_operation, past_declared, past_print, last_placeless}
+use Rattle.dart_web_cli.proofs.Emitted.{Place, outer_in, realm_at, body, Holds, Stands, of_digits, of_operation, of_variable, of_string, Computes, times, plus, minus, LetGoes, let_goes, past, over_at, text_printed, number_printed, variable_comes, returns, holds_operation, holds_variable, Grows, stands_on}
 
--- Values and stores.
+-- Values.
 
 abbrev js_of : Datum → Value
 js_of (Whole z) = Number z
-js_of (Letters units) = Characters units
+js_of (Letters units) = Str units
 
 abbrev kind_of : Datum → Bool
 kind_of (Whole z) = false
 kind_of (Letters units) = true
-
--- the store of the files, with these values of operators
-abbrev stored : List Value → Store → JsStore
-stored ops store = record { operations = ops; variables = map js_of store }
-
-same_text : (d : Datum) → target.text_of (js_of d) ≡ source.text_of d
-same_text (Whole z) = refl
-same_text (Letters units) = refl
 
 record IsWhole (found : Option Datum) : Type 0 where
   z : ℤ
@@ -68,241 +65,51 @@ numeric store kinds (dart_operands.Number n) e h = record { z = pos n; is = refl
 numeric store kinds (dart_operands.Variable k) e h =
     whole (slice_get store k) (sym (slice_get-map kind_of store k) ∙ ap (λ ks. slice_get ks k) e ∙ h)
 
--- an operand has the same value on both sides
-same_operand : (store : Store) (ops : List Value) (operand : Operand) → value_of (stored ops store) (operand_of operand) ≡ option_map js_of (operand_value store operand)
-same_operand store ops (dart_operands.Number n) = refl
-same_operand store ops (dart_operands.Variable k) = slice_get-map js_of store k
+-- what stands for an operand has its value
+whole_stands : (store : Store) (ops : List Value) (kinds : Kinds) (operand : Operand) (z : ℤ) → IsNumeric kinds operand → operand_value store operand ≡ Some (Whole z) → Stands ops (map js_of store) (operand_of operand) (Number z)
+whole_stands store ops kinds (dart_operands.Number n) z small is = let same : pos n ≡ z = cc is in subst (λ z. Stands ops (map js_of store) (alone (h.Digits n)) (Number z)) same (of_digits n small)
+whole_stands store ops kinds (dart_operands.Variable k) z numeric is = of_variable k (Number z) (slice_get-map js_of store k ∙ ap (option_map js_of) is)
 
-operand_is : (store : Store) (ops : List Value) (operand : Operand) (d : Datum) → operand_value store operand ≡ Some d → value_of (stored ops store) (operand_of operand) ≡ Some (js_of d)
-operand_is store ops operand d is = same_operand store ops operand ∙ ap (option_map js_of) is
-
-whole_is : (store : Store) (ops : List Value) (operand : Operand) (z : ℤ) → operand_value store operand ≡ Some (Whole z) → value_of (stored ops store) (operand_of operand) ≡ Some (Number z)
-whole_is store ops operand z is = operand_is store ops operand (Whole z) is
+datum_stands : (store : Store) (ops : List Value) (kinds : Kinds) (operand : Operand) (d : Datum) → IsOperand kinds operand → operand_value store operand ≡ Some d → Stands ops (map js_of store) (operand_of operand) (js_of d)
+datum_stands store ops kinds (dart_operands.Number n) d small is = let same : Whole (pos n) ≡ d = cc is in subst (λ d. Stands ops (map js_of store) (alone (h.Digits n)) (js_of d)) same (of_digits n small)
+datum_stands store ops kinds (dart_operands.Variable k) d few is = of_variable k (js_of d) (slice_get-map js_of store k ∙ ap (option_map js_of) is)
 
 get_stays : {X : Type 0} (xs ys : List X) (k : ℕ) (v : X) → slice_get xs k ≡ Some v → slice_get (xs ++ ys) k ≡ Some v
-get_stays [] ys k v e = absurd (let no : None ≡ Some v = e in cc no)
+get_stays [] ys k v e = absurd (let none : None ≡ Some v = e in cc none)
 get_stays (x ∷ xs) ys zero v e = e
 get_stays (x ∷ xs) ys (suc k) v e = get_stays xs ys k v e
-
--- further operators leave a value as it is
-value_stays : (store : Store) (ops more : List Value) (p : JsOperand) (v : Value) → value_of (stored ops store) p ≡ Some v → value_of (stored (ops ++ more) store) p ≡ Some v
-value_stays store ops more (Digits n) v e = e
-value_stays store ops more (Operation k) v e = get_stays ops more k v e
-value_stays store ops more (Variable i) v e = e
-value_stays store ops more (Str text) v e = e
 
 last_value : (ops : List Value) (v : Value) (k : ℕ) → length ops ≡ k → slice_get (ops ++ v ∷ []) k ≡ Some v
 last_value [] v k e = subst (λ k. slice_get (v ∷ []) k ≡ Some v) e refl
 last_value (o ∷ ops) v k e = subst (λ k. slice_get (o ∷ (ops ++ v ∷ [])) k ≡ Some v) e (last_value ops v (length ops) refl)
 
--- From one point of the files to a later one, with what is printed on the way.
-record Leads (c d : ActOf Js) (before : List (List ℕ)) : Type 0 where
-  comes : (r : target.Completion) (s : JsStore) (texts : List (List ℕ)) → Comes Js d r s texts → Comes Js c r s (before ++ texts)
-  cuts : (why : Halt) (texts : List (List ℕ)) → Cuts Js d why texts → Cuts Js c why (before ++ texts)
+-- what stands for a value has no places
+stands_placeless : {ops vars : List Value} {p : JsPrimary} {v : Value} → Stands ops vars p v → IsPlaceless primary_without_places p
+stands_placeless (of_digits n small) = places.by_itself (h.Digits n) (places.digits n)
+stands_placeless (of_operation k v found) = places.by_itself (h.Name (operation_name k)) (places.name (operation_name k))
+stands_placeless (of_variable i v found) = places.by_itself (h.Name (variable_name i)) (places.name (variable_name i))
+stands_placeless (of_string us) = places.by_itself (h.Str us) (places.string us)
 
-lead_none : (c : ActOf Js) → Leads c c []
-lead_none c = record { comes = λ r s texts h. h; cuts = λ why texts h. h }
-
-lead_on : {c d e : ActOf Js} {before : List (List ℕ)} → Leads c d [] → Leads d e before → Leads c e before
-lead_on {before = before} a b = record { comes = λ r s t h. a.comes r s (before ++ t) (b.comes r s t h); cuts = λ why t h. a.cuts why (before ++ t) (b.cuts why t h) }
-
--- past a statement
-lead_past : (s : JsStmt) (rest : List JsStmt) (before after : JsStore) (texts : List (List ℕ)) → Comes Js (sub (target.Statement 0 s) before fin) target.Normal after texts → Leads (body 0 (s ∷ rest) before) (body 0 rest after) texts
-lead_past s rest before after texts h = record {
-  comes = λ r end more g. comes_bind Js (sub (target.Statement 0 s) before fin) (λ _ store. body 0 rest store) target.Normal r after end texts more h g;
-  cuts = λ why more g. cuts_then Js (sub (target.Statement 0 s) before fin) (λ _ store. body 0 rest store) target.Normal after why texts more h g;
-}
-
--- a statement that cuts the run short
-cut_at : (s : JsStmt) (rest : List JsStmt) (before : JsStore) (why : Halt) → Cuts Js (sub (target.Statement 0 s) before fin) why [] → Cuts Js (body 0 (s ∷ rest) before) why []
-cut_at s rest before why h = cuts_first Js (sub (target.Statement 0 s) before fin) (λ _ store. body 0 rest store) why [] h
-
--- What a let of two numbers comes to.
-abbrev LetGoes : ℕ → Operator → JsOperand → JsOperand → JsStore → Option ℤ → Type 0
-LetGoes at operator left right s (Some z) = Comes Js (sub (target.Statement 0 (Let at operator left right)) s fin) target.Normal (with_operation s (Number z)) []
-LetGoes at operator left right s None = Cuts Js (sub (target.Statement 0 (Let at operator left right)) s fin) Left []
-
-let_goes : (at : ℕ) (operator : Operator) (left right : JsOperand) (s : JsStore) (x y : ℤ) (o : Option ℤ) → value_of s left ≡ Some (Number x) → value_of s right ≡ Some (Number y) → in_range (arithmetic operator x y) ≡ o → LetGoes at operator left right s o
-let_goes at operator left right s x y o ex ey eo = by o
-    (ap (λ v. with_value (Stuck 0 at) v (λ x. with_value (Stuck 0 at) (value_of s right) (λ y. declares (Stuck 0 at) (result_of operator x y) s))) ex
-    ∙ ap (λ v. with_value (Stuck 0 at) v (λ y. declares (Stuck 0 at) (result_of operator (Number x) y) s)) ey
-    ∙ ap (λ z. declares (Stuck 0 at) (number_given z) s) eo)
+printed_placeless : {p : JsPrimary} (is_str : Bool) → IsPlaceless primary_without_places p → IsPlaceless primary_without_places (host_print (printed_of is_str p))
+printed_placeless {p} is_str a =
+    places.selected (h.Name (codes "host$")) (l.Method m.Print (printed_of is_str p ∷ []) ∷ []) (places.name (codes "host$"))
+    (places.one (l.Method m.Print (printed_of is_str p ∷ [])) (places.method m.Print (printed_of is_str p ∷ []) (places.one (printed_of is_str p) (argument is_str))))
   where
-    by : (o : Option ℤ) → target.statement 0 (Let at operator left right) s ≡ declares (Stuck 0 at) (number_given o) s → LetGoes at operator left right s o
-    by (Some z) e = comes_sub Js (target.Statement 0 (Let at operator left right)) s (with_operation s (Number z)) target.Normal [] (subst (λ a. Comes Js a target.Normal (with_operation s (Number z)) []) (sym e) (comes_fin Js target.Normal (with_operation s (Number z))))
-    by None e = cuts_sub Js (target.Statement 0 (Let at operator left right)) s Left [] (subst (λ a. Cuts Js a Left []) (sym e) (cuts_quit Js Left))
+    argument : (is_str : Bool) → IsPlaceless expr_without_places (printed_of is_str p)
+    argument true = places.primary p a
+    argument false = places.primary (alone (h.StringOf (e.Primary p ∷ []))) (places.by_itself (h.StringOf (e.Primary p ∷ [])) (places.string_of (e.Primary p ∷ []) (places.one (e.Primary p) (places.primary p a))))
 
--- A tree that differs in its places alone begins with the same statement.
+length_map : {X Y : Type 0} (f : X → Y) (xs : List X) → length (map f xs) ≡ length xs
+length_map f [] = refl
+length_map f (x ∷ xs) = ap suc (length_map f xs)
 
-record BeginsWith (statement : ℕ → JsStmt) (rest tree : List JsStmt) : Type 0 where
-  at : ℕ
-  more : List JsStmt
-  is : tree ≡ statement at ∷ more
-  same : map without_place more ≡ rest
+map_more : {X Y : Type 0} (f : X → Y) (xs : List X) (x : X) → map f (xs ++ x ∷ []) ≡ map f xs ++ f x ∷ []
+map_more f [] x = refl
+map_more f (y ∷ xs) x = ap (λ ys. f y ∷ ys) (map_more f xs x)
 
-begins_with_let : (operator : Operator) (left right : JsOperand) (rest tree : List JsStmt) → map without_place tree ≡ Let 0 operator left right ∷ rest → BeginsWith (λ at. Let at operator left right) rest tree
-begins_with_let operator left right rest [] e = absurd (cc e)
-begins_with_let operator left right rest (Let at o l r ∷ more) e =
-    let eo : o ≡ operator = cc e in
-    let el : l ≡ left = cc e in
-    let er : r ≡ right = cc e in
-    record { at = at; more = more; is = λ i. Let at (eo i) (el i) (er i) ∷ more; same = cc e }
-begins_with_let operator left right rest (Var at v ∷ more) e = absurd (cc e)
-begins_with_let operator left right rest (Print at v ∷ more) e = absurd (cc e)
-begins_with_let operator left right rest (PrintStr at v ∷ more) e = absurd (cc e)
-
-begins_with_var : (value : JsOperand) (rest tree : List JsStmt) → map without_place tree ≡ Var 0 value ∷ rest → BeginsWith (λ at. Var at value) rest tree
-begins_with_var value rest [] e = absurd (cc e)
-begins_with_var value rest (Let at o l r ∷ more) e = absurd (cc e)
-begins_with_var value rest (Var at v ∷ more) e = let ev : v ≡ value = cc e in record { at = at; more = more; is = λ i. Var at (ev i) ∷ more; same = cc e }
-begins_with_var value rest (Print at v ∷ more) e = absurd (cc e)
-begins_with_var value rest (PrintStr at v ∷ more) e = absurd (cc e)
-
-begins_with_print : (value : JsOperand) (rest tree : List JsStmt) → map without_place tree ≡ Print 0 value ∷ rest → BeginsWith (λ at. Print at value) rest tree
-begins_with_print value rest [] e = absurd (cc e)
-begins_with_print value rest (Let at o l r ∷ more) e = absurd (cc e)
-begins_with_print value rest (Var at v ∷ more) e = absurd (cc e)
-begins_with_print value rest (Print at v ∷ more) e = let ev : v ≡ value = cc e in record { at = at; more = more; is = λ i. Print at (ev i) ∷ more; same = cc e }
-begins_with_print value rest (PrintStr at v ∷ more) e = absurd (cc e)
-
-begins_with_print_str : (value : JsOperand) (rest tree : List JsStmt) → map without_place tree ≡ PrintStr 0 value ∷ rest → BeginsWith (λ at. PrintStr at value) rest tree
-begins_with_print_str value rest [] e = absurd (cc e)
-begins_with_print_str value rest (Let at o l r ∷ more) e = absurd (cc e)
-begins_with_print_str value rest (Var at v ∷ more) e = absurd (cc e)
-begins_with_print_str value rest (Print at v ∷ more) e = absurd (cc e)
-begins_with_print_str value rest (PrintStr at v ∷ more) e = let ev : v ≡ value = cc e in record { at = at; more = more; is = λ i. PrintStr at (ev i) ∷ more; same = cc e }
-
--- What the lets of an expression come to, which stand before what is behind them.
-
--- a value, and what stands for it there
-record Arrives (v : Value) (behind : Behind) (tree : List JsStmt) (ops : List Value) (store : Store) : Type 0 where
-  k : ℕ
-  p : JsOperand
-  all : List Value
-  extra : List Value
-  tree' : List JsStmt
-  grown : all ≡ ops ++ extra
-  count : length all ≡ k
-  value : value_of (stored all store) p ≡ Some v
-  same : map without_place tree' ≡ behind k p
-  leads : Leads (body 0 tree (stored ops store)) (body 0 tree' (stored all store)) []
-
-abbrev Goes : Behind → List JsStmt → List Value → Store → Option Value → Type 0
-Goes behind tree ops store (Some v) = Arrives v behind tree ops store
-Goes behind tree ops store None = Cuts Js (body 0 tree (stored ops store)) Left []
-
--- no let at all
-arrives : (k : ℕ) (p : JsOperand) (v : Value) (behind : Behind) (tree : List JsStmt) (ops : List Value) (store : Store) → length ops ≡ k → value_of (stored ops store) p ≡ Some v → map without_place tree ≡ behind k p → Arrives v behind tree ops store
-arrives k p v behind tree ops store len value same = record {
-  k = k;
-  p = p;
-  all = ops;
-  extra = [];
-  tree' = tree;
-  grown = sym (append-nil ops);
-  count = len;
-  value = value;
-  same = same;
-  leads = lead_none (body 0 tree (stored ops store));
-}
-
--- from a later point, further operators on the way
-goes_on : (behind : Behind) (tree later : List JsStmt) (ops between extra : List Value) (store : Store) (o : Option Value) → between ≡ ops ++ extra → Leads (body 0 tree (stored ops store)) (body 0 later (stored between store)) [] → Goes behind later between store o → Goes behind tree ops store o
-goes_on behind tree later ops between extra store (Some v) grown leads a = record {
-  k = a.k;
-  p = a.p;
-  all = a.all;
-  extra = extra ++ a.extra;
-  tree' = a.tree';
-  grown = a.grown ∙ ap (λ xs. xs ++ a.extra) grown ∙ append_assoc ops extra a.extra;
-  count = a.count;
-  value = a.value;
-  same = a.same;
-  leads = lead_on leads a.leads;
-}
-goes_on behind tree later ops between extra store None grown leads c = leads.cuts Left [] c
-
--- One let, and then what is behind it.
-let_on : (at : ℕ) (operator : Operator) (left right : JsOperand) (more tree : List JsStmt) (behind : Behind) (ops : List Value) (store : Store) (x y : ℤ) (next : ℤ → Option ℤ)
-    → tree ≡ Let at operator left right ∷ more → value_of (stored ops store) left ≡ Some (Number x) → value_of (stored ops store) right ≡ Some (Number y)
-    → ((z : ℤ) → Goes behind more (ops ++ Number z ∷ []) store (option_map Number (next z)))
-    → Goes behind tree ops store (option_map Number (in_range (arithmetic operator x y) >>= next))
-let_on at operator left right more tree behind ops store x y next is ex ey then =
-    by (in_range (arithmetic operator x y)) (let_goes at operator left right (stored ops store) x y (in_range (arithmetic operator x y)) ex ey refl)
-  where
-    by : (o : Option ℤ) → LetGoes at operator left right (stored ops store) o → Goes behind tree ops store (option_map Number (o >>= next))
-    by (Some z) h =
-        subst (λ t. Goes behind t ops store (option_map Number (next z))) (sym is)
-        (goes_on behind (Let at operator left right ∷ more) more ops (ops ++ Number z ∷ []) (Number z ∷ []) store (option_map Number (next z)) refl
-        (lead_past (Let at operator left right) more (stored ops store) (stored (ops ++ Number z ∷ []) store) [] h) (then z))
-    by None h =
-        subst (λ t. Cuts Js (body 0 t (stored ops store)) Left []) (sym is) (cut_at (Let at operator left right) more (stored ops store) Left h)
-
--- Products.
-product_goes : (factors : List Operand) (total : ℤ) (k : ℕ) (sofar : JsOperand) (behind : Behind) (tree : List JsStmt) (ops : List Value) (store : Store) (kinds : Kinds)
-    → map kind_of store ≡ kinds → AreNumeric kinds factors → value_of (stored ops store) sofar ≡ Some (Number total) → length ops ≡ k
-    → map without_place tree ≡ product_then k sofar factors behind → Goes behind tree ops store (option_map Number (product_from store total factors))
-product_goes [] total k sofar behind tree ops store kinds ek h value len e = arrives k sofar (Number total) behind tree ops store len value e
-product_goes (factor ∷ factors) total k sofar behind tree ops store kinds ek h value len e =
-    let n = numeric store kinds factor ek h.0 in
-    let b = begins_with_let Times sofar (operand_of factor) (product_then (suc k) (Operation k) factors behind) tree e in
-    subst (λ o. Goes behind tree ops store (option_map Number (number_in o >>= (λ z. source.in_range (total *ℤ z) >>= (λ next. product_from store next factors))))) (sym n.is)
-    (let_on b.at Times sofar (operand_of factor) b.more tree behind ops store total n.z (λ next. product_from store next factors) b.is value (whole_is store ops factor n.z n.is)
-    (λ z. product_goes factors z (suc k) (Operation k) behind b.more (ops ++ Number z ∷ []) store kinds ek h.1 (last_value ops (Number z) k len) (longer z) b.same))
-  where
-    longer : (z : ℤ) → length (ops ++ Number z ∷ []) ≡ suc k
-    longer z = omega (arith, length-append ops (Number z ∷ []), len)
-
--- a product, from its first factor on, and then what is behind it
-product_then_goes : (first : Operand) (factors : List Operand) (k : ℕ) (inner behind : Behind) (tree : List JsStmt) (ops : List Value) (store : Store) (kinds : Kinds) (next : ℤ → Option ℤ)
-    → map kind_of store ≡ kinds → IsNumeric kinds first → AreNumeric kinds factors → length ops ≡ k → map without_place tree ≡ product_then k (operand_of first) factors inner
-    → ((v : ℤ) → (a : Arrives (Number v) inner tree ops store) → Goes behind a.tree' a.all store (option_map Number (next v)))
-    → Goes behind tree ops store (option_map Number ((number_in (operand_value store first) >>= (λ z. product_from store z factors)) >>= next))
-product_then_goes first factors k inner behind tree ops store kinds next ek h hs len e then =
-    let n = numeric store kinds first ek h in
-    subst (λ o. Goes behind tree ops store (option_map Number ((number_in o >>= (λ z. product_from store z factors)) >>= next))) (sym n.is)
-    (by (product_from store n.z factors) (product_goes factors n.z k (operand_of first) inner tree ops store kinds ek hs (whole_is store ops first n.z n.is) len e))
-  where
-    by : (o : Option ℤ) → Goes inner tree ops store (option_map Number o) → Goes behind tree ops store (option_map Number (o >>= next))
-    by (Some v) a = goes_on behind tree a.tree' ops a.all a.extra store (option_map Number (next v)) a.grown a.leads (then v a)
-    by None c = c
-
-same_sign : (sign : Sign) (x y : ℤ) → arithmetic (operator_of sign) x y ≡ signed sign x y
-same_sign signs.Plus x y = refl
-same_sign signs.Minus x y = refl
-
--- Sums.
-addends_go : (addends : List Addend) (total : ℤ) (k : ℕ) (sofar : JsOperand) (behind : Behind) (tree : List JsStmt) (ops : List Value) (store : Store) (kinds : Kinds)
-    → map kind_of store ≡ kinds → AreAddends kinds addends → value_of (stored ops store) sofar ≡ Some (Number total) → length ops ≡ k
-    → map without_place tree ≡ addends_then k sofar addends behind → Goes behind tree ops store (option_map Number (sum_from store total addends))
-addends_go [] total k sofar behind tree ops store kinds ek h value len e = arrives k sofar (Number total) behind tree ops store len value e
-addends_go (addend ∷ addends) total k sofar behind tree ops store kinds ek h value len e =
-    product_then_goes addend.product.first addend.product.rest k inner behind tree ops store kinds (λ v. source.in_range (signed addend.sign total v) >>= (λ next. sum_from store next addends)) ek h.0.0 h.0.1 len e
-    (λ v a. signed_let v a (begins_with_let (operator_of addend.sign) sofar a.p (addends_then (suc a.k) (Operation a.k) addends behind) a.tree' a.same) (λ z tree ops len same. addends_go addends z (suc a.k) (Operation a.k) behind tree (ops ++ Number z ∷ []) store kinds ek h.1 (last_value ops (Number z) a.k len) (longer ops z a.k len) same))
-  where
-    inner : Behind
-    inner k' product = Let 0 (operator_of addend.sign) sofar product ∷ addends_then (suc k') (Operation k') addends behind
-
-    longer : (ops : List Value) (z : ℤ) (k : ℕ) → length ops ≡ k → length (ops ++ Number z ∷ []) ≡ suc k
-    longer ops z k len = omega (arith, length-append ops (Number z ∷ []), len)
-
-    signed_let : (v : ℤ) (a : Arrives (Number v) inner tree ops store) → BeginsWith (λ at. Let at (operator_of addend.sign) sofar a.p) (addends_then (suc a.k) (Operation a.k) addends behind) a.tree'
-        → ((z : ℤ) (tree : List JsStmt) (ops : List Value) → length ops ≡ a.k → map without_place tree ≡ addends_then (suc a.k) (Operation a.k) addends behind → Goes behind tree (ops ++ Number z ∷ []) store (option_map Number (sum_from store z addends)))
-        → Goes behind a.tree' a.all store (option_map Number (source.in_range (signed addend.sign total v) >>= (λ next. sum_from store next addends)))
-    signed_let v a b then =
-        subst (λ z. Goes behind a.tree' a.all store (option_map Number (source.in_range z >>= (λ next. sum_from store next addends)))) (same_sign addend.sign total v)
-        (let_on b.at (operator_of addend.sign) sofar a.p b.more a.tree' behind a.all store total v (λ next. sum_from store next addends) b.is
-        (subst (λ all. value_of (stored all store) sofar ≡ Some (Number total)) (sym a.grown) (value_stays store ops a.extra sofar (Number total) value)) a.value
-        (λ z. then z b.more a.all a.count b.same))
-
--- a sum that is no operand alone, or is one that is a number
-sum_goes : (first : Operand) (factors : List Operand) (addends : List Addend) (k : ℕ) (behind : Behind) (tree : List JsStmt) (ops : List Value) (store : Store) (kinds : Kinds)
-    → map kind_of store ≡ kinds → IsNumeric kinds first → AreNumeric kinds factors → AreAddends kinds addends → length ops ≡ k
-    → map without_place tree ≡ product_then k (operand_of first) factors (λ k' product. addends_then k' product addends behind)
-    → Goes behind tree ops store (option_map Number (sum_value store (record { first = record { first = first; rest = factors }; rest = addends })))
-sum_goes first factors addends k behind tree ops store kinds ek h hs ha len e =
-    product_then_goes first factors k (λ k' product. addends_then k' product addends behind) behind tree ops store kinds (λ v. sum_from store v addends) ek h hs len e
-    (λ v a. addends_go addends v a.k a.p behind a.tree' a.all store kinds ek ha a.value a.count a.same)
+same_sign : (sign : Sign) → Computes (operator_of sign) (signed sign)
+same_sign signs.Plus = plus
+same_sign signs.Minus = minus
 
 whole_numbers : (o : Option ℤ) → option_map Number o ≡ option_map js_of (option_map Whole o)
 whole_numbers (Some z) = refl
@@ -314,37 +121,11 @@ record IsThere (found : Option Datum) : Type 0 where
 
 -- a declared name has a value
 declared : (store : Store) (kinds : Kinds) (operand : Operand) → map kind_of store ≡ kinds → IsOperand kinds operand → IsThere (operand_value store operand)
-declared store kinds (dart_operands.Number n) ek h = record { d = Whole (pos n); is = refl }
-declared store kinds (dart_operands.Variable k) ek h =
-    let many : length (map kind_of store) ≡ length store = length_map store in
-    let few : k < length store = omega (arith, h, ap length ek, many) in
+declared store kinds (dart_operands.Number n) ek small = record { d = Whole (pos n); is = refl }
+declared store kinds (dart_operands.Variable k) ek lt =
+    let many : length (map kind_of store) ≡ length store = length_map kind_of store in
+    let few : k < length store = omega (arith, lt, ap length ek, many) in
     record { d = get_or store k (Letters []); is = slice_get-get_or store k (Letters []) few }
-  where
-    length_map : (store : Store) → length (map kind_of store) ≡ length store
-    length_map [] = refl
-    length_map (d ∷ store) = ap suc (length_map store)
-
-abbrev made : Operand → List Operand → List Addend → Sum
-made first factors addends = record { first = record { first = first; rest = factors }; rest = addends }
-
--- Expressions.
-expression_goes : (value : Expression) (k : ℕ) (behind : Behind) (tree : List JsStmt) (ops : List Value) (store : Store) (kinds : Kinds)
-    → map kind_of store ≡ kinds → IsExpression kinds value → length ops ≡ k → map without_place tree ≡ expression_then k value behind → Goes behind tree ops store (option_map js_of (expression_value store value))
-expression_goes (expressions.Text text) k behind tree ops store kinds ek h len e = arrives k (Str text) (Characters text) behind tree ops store len refl e
-expression_goes (expressions.Sum sum) k behind tree ops store kinds ek h len e = by sum.first.first sum.first.rest sum.rest h e
-  where
-    by : (first : Operand) (factors : List Operand) (addends : List Addend) → IsSum kinds (made first factors addends) → map without_place tree ≡ expression_then k (expressions.Sum (made first factors addends)) behind
-        → Goes behind tree ops store (option_map js_of (lone_or_sum store (made first factors addends) (lone (made first factors addends))))
-    by first [] [] h e =
-        let there = declared store kinds first ek h in
-        subst (λ o. Goes behind tree ops store (option_map js_of o)) (sym there.is)
-        (arrives k (operand_of first) (js_of there.d) behind tree ops store len (operand_is store ops first there.d there.is) e)
-    by first [] (addend ∷ addends) h e =
-        subst (Goes behind tree ops store) (whole_numbers (sum_value store (made first [] (addend ∷ addends))))
-        (sum_goes first [] (addend ∷ addends) k behind tree ops store kinds ek h.0.0 h.0.1 h.1 len e)
-    by first (factor ∷ factors) addends h e =
-        subst (Goes behind tree ops store) (whole_numbers (sum_value store (made first (factor ∷ factors) addends)))
-        (sum_goes first (factor ∷ factors) addends k behind tree ops store kinds ek h.0.0 h.0.1 h.1 len e)
 
 -- what an expression is said to be, it is
 expression_kind : (value : Expression) (store : Store) (kinds : Kinds) (d : Datum) → map kind_of store ≡ kinds → expression_value store value ≡ Some d → is_text kinds value ≡ kind_of d
@@ -361,7 +142,7 @@ expression_kind (expressions.Sum sum) store kinds d ek e = by (lone sum) e
     by (Some (dart_operands.Variable k)) e =
         get_or_from_slice_get kinds k (kind_of d) false (ap (λ ks. slice_get ks k) (sym ek) ∙ slice_get-map kind_of store k ∙ ap (option_map kind_of) e)
 
--- Statements.
+-- Statements of the source.
 
 -- the source prints, declares, or is cut short
 print_comes : (value : Expression) (store : Store) (d : Datum) → expression_value store value ≡ Some d → Comes First (sub (source.Statement (dart_statements.Print value)) store fin) source.Normal store (source.text_of d ∷ [])
@@ -387,129 +168,273 @@ statement_cuts s value next store acts is =
     (subst (λ a. Cuts First a Left []) (sym acts)
     (cuts_first First (sub (source.Expression value) store fin) next Left [] (cuts_sub First (source.Expression value) store Left [] valued)))
 
--- past the print of a value
-record Past (rest tree : List JsStmt) (before after : JsStore) (texts : List (List ℕ)) : Type 0 where
-  more : List JsStmt
-  same : map without_place more ≡ rest
-  leads : Leads (body 0 tree before) (body 0 more after) texts
+module _ (place : Place) (outer : outer_in place.inner place.base (codes "host$") ≡ Some Host) where
+  -- What the lets of an expression come to, which stand before what is behind them.
 
-printed : (d : Datum) (is_str : Bool) (p : JsOperand) (rest tree : List JsStmt) (s : JsStore) → is_str ≡ kind_of d → value_of s p ≡ Some (js_of d) → map without_place tree ≡ print_of is_str p ∷ rest → Past rest tree s s (source.text_of d ∷ [])
-printed (Whole z) true p rest tree s kind value e = absurd (cc kind)
-printed (Whole z) false p rest tree s kind value e =
-    let b = begins_with_print p rest tree e in
-    let text = target.text_of (Number z) in
-    let string : Comes Js (sub (target.ToString (Number z)) s target.prints) target.Normal s (text ∷ []) =
-    comes_bind Js (sub (target.ToString (Number z)) s fin) target.prints (target.Text text) target.Normal s s [] (text ∷ [])
-    (comes_sub Js (target.ToString (Number z)) s s (target.Text text) [] (comes_fin Js (target.Text text) s))
-    (comes_sub Js (target.HostPrint text) s s target.Normal [] (comes_fin Js target.Normal s)) in
-    let statement : Comes Js (sub (target.Statement 0 (Print b.at p)) s fin) target.Normal s (text ∷ []) =
-    comes_sub Js (target.Statement 0 (Print b.at p)) s s target.Normal (text ∷ [])
-    (subst (λ o. Comes Js (with_value (Stuck 0 b.at) o (λ x. sub (target.ToString x) s target.prints)) target.Normal s (text ∷ [])) (sym value) string) in
-    record { more = b.more; same = b.same; leads = subst (λ t. Leads (body 0 t s) (body 0 b.more s) (text ∷ [])) (sym b.is) (lead_past (Print b.at p) b.more s s (text ∷ []) statement) }
-printed (Letters units) false p rest tree s kind value e = absurd (cc kind)
-printed (Letters units) true p rest tree s kind value e =
-    let b = begins_with_print_str p rest tree e in
-    let statement : Comes Js (sub (target.Statement 0 (PrintStr b.at p)) s fin) target.Normal s (units ∷ []) =
-    comes_sub Js (target.Statement 0 (PrintStr b.at p)) s s target.Normal (units ∷ [])
-    (subst (λ o. Comes Js (with_value (Stuck 0 b.at) o (λ x. target.prints_string (Stuck 0 b.at) x s)) target.Normal s (units ∷ [])) (sym value)
-    (comes_sub Js (target.HostPrint units) s s target.Normal [] (comes_fin Js target.Normal s))) in
-    record { more = b.more; same = b.same; leads = subst (λ t. Leads (body 0 t s) (body 0 b.more s) (units ∷ [])) (sym b.is) (lead_past (PrintStr b.at p) b.more s s (units ∷ []) statement) }
+  -- a value, and what stands for it there
+  record Arrives (v : Value) (behind : Behind) (tree : List JsStmt) (scope : Scope) (ops vars : List Value) (i : ℕ) : Type 0 where
+    k : ℕ
+    p : JsPrimary
+    all : List Value
+    scope' : Scope
+    tree' : List JsStmt
+    grows : Grows ops all
+    count : length all ≡ k
+    stands : Stands all vars p v
+    same : map stmt_without_places tree' ≡ behind k p
+    form : IsBody k i (map stmt_without_places tree')
+    holds : Holds all vars scope'
+    leads : Leads (body place tree) (realm_at place scope) (body place tree') (realm_at place scope') []
 
-map_more : {X Y : Type 0} (f : X → Y) (xs : List X) (x : X) → map f (xs ++ x ∷ []) ≡ map f xs ++ f x ∷ []
-map_more f [] x = refl
-map_more f (y ∷ xs) x = ap (λ ys. f y ∷ ys) (map_more f xs x)
+  abbrev Goes : Behind → List JsStmt → Scope → List Value → List Value → ℕ → Option Value → Type 0
+  Goes behind tree scope ops vars i (Some v) = Arrives v behind tree scope ops vars i
+  Goes behind tree scope ops vars i None = Ends (body place tree) (realm_at place scope) (cut Left) []
 
-given : (d : Datum) (p : JsOperand) (rest tree : List JsStmt) (all : List Value) (store : Store) → value_of (stored all store) p ≡ Some (js_of d) → map without_place tree ≡ Var 0 p ∷ rest → Past rest tree (stored all store) (stored all (store ++ d ∷ [])) []
-given d p rest tree all store value e =
-    let s = stored all store in
-    let b = begins_with_var p rest tree e in
-    let after : with_variable s (js_of d) ≡ stored all (store ++ d ∷ []) = (λ i. record { operations = all; variables = sym (map_more js_of store d) i }) in
-    let statement : Comes Js (sub (target.Statement 0 (Var b.at p)) s fin) target.Normal (with_variable s (js_of d)) [] =
-    comes_sub Js (target.Statement 0 (Var b.at p)) s (with_variable s (js_of d)) target.Normal []
-    (subst (λ o. Comes Js (with_value (Stuck 0 b.at) o (λ x. fin target.Normal (with_variable s x))) target.Normal (with_variable s (js_of d)) []) (sym value) (comes_fin Js target.Normal (with_variable s (js_of d)))) in
-    record { more = b.more; same = b.same; leads = subst (λ t. Leads (body 0 t s) (body 0 b.more (stored all (store ++ d ∷ []))) []) (sym b.is) (lead_past (Var b.at p) b.more s (stored all (store ++ d ∷ [])) [] (subst (λ s'. Comes Js (sub (target.Statement 0 (Var b.at p)) s fin) target.Normal s' []) after statement)) }
+  -- no let at all
+  arrives : (k : ℕ) (p : JsPrimary) (v : Value) (behind : Behind) (tree : List JsStmt) (scope : Scope) (ops vars : List Value) (i : ℕ) → length ops ≡ k → Stands ops vars p v → map stmt_without_places tree ≡ behind k p → IsBody k i (map stmt_without_places tree) → Holds ops vars scope → Arrives v behind tree scope ops vars i
+  arrives k p v behind tree scope ops vars i len stands same form holds = record {
+    k = k;
+    p = p;
+    all = ops;
+    scope' = scope;
+    tree' = tree;
+    grows = λ j w found. found;
+    count = len;
+    stands = stands;
+    same = same;
+    form = form;
+    holds = holds;
+    leads = stays (body place tree) (realm_at place scope);
+  }
 
--- Both come to the same end, with the same texts.
-record Agree (a : ActOf First) (b : ActOf Js) : Type 0 where
-  texts : List (List ℕ)
-  how : (((store : Store) × Comes First a source.Normal store texts) × ((s : JsStore) × Comes Js b target.Returned s texts)) ⊎ (Cuts First a Left texts × Cuts Js b Left texts)
+  -- from a later point
+  goes_on : (behind : Behind) (tree later : List JsStmt) (scope scope' : Scope) (ops between vars : List Value) (i : ℕ) (o : Option Value) → Grows ops between → Leads (body place tree) (realm_at place scope) (body place later) (realm_at place scope') [] → Goes behind later scope' between vars i o → Goes behind tree scope ops vars i o
+  goes_on behind tree later scope scope' ops between vars i (Some v) grows leads a = record {
+    k = a.k;
+    p = a.p;
+    all = a.all;
+    scope' = a.scope';
+    tree' = a.tree';
+    grows = λ j w found. a.grows j w (grows j w found);
+    count = a.count;
+    stands = a.stands;
+    same = a.same;
+    form = a.form;
+    holds = a.holds;
+    leads = leads_on leads a.leads;
+  }
+  goes_on behind tree later scope scope' ops between vars i None grows leads c = leads_over leads c
 
-no_statement : (tree : List JsStmt) → map without_place tree ≡ [] → tree ≡ []
-no_statement [] e = refl
-no_statement (s ∷ tree) e = absurd (cc e)
+  -- One let, and then what is behind it.
+  let_on : (k i : ℕ) (operator : JsOperator) (f : ℤ → ℤ → ℤ) (left right : JsPrimary) (rest tree : List JsStmt) (behind : Behind) (scope : Scope) (ops vars : List Value) (x y : ℤ) (next : ℤ → Option ℤ)
+      → Computes operator f → length ops ≡ k → Holds ops vars scope → IsBody k i (map stmt_without_places tree) → map stmt_without_places tree ≡ operation_let k operator left right ∷ rest → Stands ops vars left (Number x) → Stands ops vars right (Number y)
+      → ((z : ℤ) (more : List JsStmt) (scope' : Scope) → map stmt_without_places more ≡ rest → IsBody (suc k) i (map stmt_without_places more) → Holds (ops ++ Number z ∷ []) vars scope' → Goes behind more scope' (ops ++ Number z ∷ []) vars i (option_map Number (next z)))
+      → Goes behind tree scope ops vars i (option_map Number (source.in_range (f x y) >>= next))
+  let_on k i operator f left right rest tree behind scope ops vars x y next computes len holds form is sx sy then =
+      by (source.in_range (f x y)) (let_goes place b.at (operation_name k) operator f left right x y computes holds sx sy)
+    where
+      b : Begins (λ at. s.Let at (operation_name k) (e.Binary operator left right)) rest tree
+      b = begins_with_let (operation_name k) (e.Binary operator left right) (places.binary operator left right (stands_placeless sx) (stands_placeless sy)) rest tree is
 
--- one statement on each side, and then those behind it
-agree_on : (s : Statement) (program : List Statement) (before after : Store) (tree later : List JsStmt) (js_before js_after : JsStore) (texts : List (List ℕ))
-    → Comes First (sub (source.Statement s) before fin) source.Normal after texts → Leads (body 0 tree js_before) (body 0 later js_after) texts
-    → Agree (source.statements program after) (body 0 later js_after) → Agree (source.statements (s ∷ program) before) (body 0 tree js_before)
-agree_on s program before after tree later js_before js_after texts h leads a = record {
-  texts = texts ++ a.texts;
-  how =
-      ⊎_elim
-      (λ g. inl ((g.0.0, comes_bind First (sub (source.Statement s) before fin) (λ _ store. source.statements program store) source.Normal source.Normal after g.0.0 texts a.texts h g.0.1), (g.1.0, leads.comes target.Returned g.1.0 a.texts g.1.1)))
-      (λ g. inr (cuts_then First (sub (source.Statement s) before fin) (λ _ store. source.statements program store) source.Normal after Left texts a.texts h g.0, leads.cuts Left a.texts g.1))
-      a.how;
-}
+      on : (k < 2 ^ 64) × IsBody (suc k) i rest
+      on = past_operation (e.Binary operator left right) rest form is
 
-agree_cut : (s : Statement) (program : List Statement) (before : Store) (tree : List JsStmt) (js_before : JsStore) → Cuts First (sub (source.Statement s) before fin) Left [] → Cuts Js (body 0 tree js_before) Left [] → Agree (source.statements (s ∷ program) before) (body 0 tree js_before)
-agree_cut s program before tree js_before h c = record { texts = []; how = inr (cuts_first First (sub (source.Statement s) before fin) (λ _ store. source.statements program store) Left [] h, c) }
+      by : (r : Option ℤ) → LetGoes place b.at (operation_name k) (e.Binary operator left right) scope r → Goes behind tree scope ops vars i (option_map Number (r >>= next))
+      by (Some z) g =
+          subst (λ t. Goes behind t scope ops vars i (option_map Number (next z))) (sym b.is)
+          (goes_on behind (s.Let b.at (operation_name k) (e.Binary operator left right) ∷ b.more) b.more scope (bind scope (operation_name k) (Some (Number z))) ops (ops ++ Number z ∷ []) vars i (option_map Number (next z)) (λ j w. get_stays ops (Number z ∷ []) j w)
+          (past place b.more g) (then z b.more (bind scope (operation_name k) (Some (Number z))) b.same (subst (IsBody (suc k) i) (sym b.same) on.1) (holds_operation ops vars scope k (Number z) len on.0 holds)))
+      by None g = subst (λ t. Ends (body place t) (realm_at place scope) (cut Left) []) (sym b.is) (over_at place b.more g)
 
-all_agree : (program : List Statement) (k : ℕ) (kinds : Kinds) (names : Names) (tree : List JsStmt) (ops : List Value) (store : Store)
-    → map kind_of store ≡ kinds → AreWellFormed kinds names program → length ops ≡ k → map without_place tree ≡ statements_from k kinds program
-    → Agree (source.statements program store) (body 0 tree (stored ops store))
-all_agree [] k kinds names tree ops store ek h len e = record {
-  texts = [];
-  how = inl ((store, comes_fin First source.Normal store), (stored ops store, subst (λ t. Comes Js (body 0 t (stored ops store)) target.Returned (stored ops store) []) (sym (no_statement tree e)) (comes_sub Js target.Return (stored ops store) (stored ops store) target.Returned [] (comes_fin Js target.Returned (stored ops store)))));
-}
-all_agree (dart_statements.Print value ∷ program) k kinds names tree ops store ek h len e =
-    by (expression_value store value) refl (expression_goes value k behind tree ops store kinds ek h.0 len e) (λ k tree ops. all_agree program k kinds names tree ops store ek h.1)
-  where
-    behind : Behind
-    behind k' p = print_of (is_text kinds value) p ∷ statements_from k' kinds program
+  longer : (ops : List Value) (z : ℤ) (k : ℕ) → length ops ≡ k → length (ops ++ Number z ∷ []) ≡ suc k
+  longer ops z k len = omega (arith, length-append ops (Number z ∷ []), len)
 
-    by : (o : Option Datum) → expression_value store value ≡ o → Goes behind tree ops store (option_map js_of o)
-        → ((k : ℕ) (tree : List JsStmt) (ops : List Value) → length ops ≡ k → map without_place tree ≡ statements_from k kinds program → Agree (source.statements program store) (body 0 tree (stored ops store)))
-        → Agree (source.statements (dart_statements.Print value ∷ program) store) (body 0 tree (stored ops store))
-    by (Some d) is a next =
-        let past = printed d (is_text kinds value) a.p (statements_from a.k kinds program) a.tree' (stored a.all store) (expression_kind value store kinds d ek is) a.value a.same in
-        agree_on (dart_statements.Print value) program store store tree past.more (stored ops store) (stored a.all store) (source.text_of d ∷ []) (print_comes value store d is) (lead_on a.leads past.leads) (next a.k past.more a.all a.count past.same)
-    by None is c next = agree_cut (dart_statements.Print value) program store tree (stored ops store) (statement_cuts (dart_statements.Print value) value source.prints store refl is) c
-all_agree (dart_statements.Declare name value ∷ program) k kinds names tree ops store ek h len e =
-    by (expression_value store value) refl (expression_goes value k behind tree ops store kinds ek h.2 len e) (λ d kind k tree ops. all_agree program k (kinds ++ is_text kinds value ∷ []) (names ++ name ∷ []) tree ops (store ++ d ∷ []) (more_kinds d kind) h.3)
-  where
-    behind : Behind
-    behind k' p = Var 0 p ∷ statements_from k' (kinds ++ is_text kinds value ∷ []) program
+  -- Products.
+  product_goes : (factors : List Operand) (total : ℤ) (k i : ℕ) (sofar : JsPrimary) (behind : Behind) (tree : List JsStmt) (scope : Scope) (ops : List Value) (store : Store) (kinds : Kinds)
+      → map kind_of store ≡ kinds → AreNumeric kinds factors → Stands ops (map js_of store) sofar (Number total) → length ops ≡ k → Holds ops (map js_of store) scope → IsBody k i (map stmt_without_places tree)
+      → map stmt_without_places tree ≡ product_then k sofar factors behind → Goes behind tree scope ops (map js_of store) i (option_map Number (product_from store total factors))
+  product_goes [] total k i sofar behind tree scope ops store kinds ek hs value len holds form same = arrives k sofar (Number total) behind tree scope ops (map js_of store) i len value same form holds
+  product_goes (factor ∷ factors) total k i sofar behind tree scope ops store kinds ek hs value len holds form same =
+      let n = numeric store kinds factor ek hs.0 in
+      subst (λ d. Goes behind tree scope ops (map js_of store) i (option_map Number (number_in d >>= (λ z. source.in_range (total *ℤ z) >>= (λ next. product_from store next factors))))) (sym n.is)
+      (let_on k i o.Times (λ x y. x *ℤ y) sofar (operand_of factor) (product_then (suc k) (operation k) factors behind) tree behind scope ops (map js_of store) total n.z (λ next. product_from store next factors)
+      times len holds form same value (whole_stands store ops kinds factor n.z hs.0 n.is)
+      (λ z more scope' same form holds. product_goes factors z (suc k) i (operation k) behind more scope' (ops ++ Number z ∷ []) store kinds ek hs.1 (of_operation k (Number z) (last_value ops (Number z) k len)) (longer ops z k len) holds form same))
 
-    more_kinds : (d : Datum) → is_text kinds value ≡ kind_of d → map kind_of (store ++ d ∷ []) ≡ kinds ++ is_text kinds value ∷ []
-    more_kinds d kind = map_more kind_of store d ∙ (λ i. ek i ++ sym kind i ∷ [])
+  -- a product, from its first factor on, and then what is behind it
+  product_then_goes : (first : Operand) (factors : List Operand) (k i : ℕ) (inner behind : Behind) (tree : List JsStmt) (scope : Scope) (ops : List Value) (store : Store) (kinds : Kinds) (next : ℤ → Option ℤ)
+      → map kind_of store ≡ kinds → IsNumeric kinds first → AreNumeric kinds factors → length ops ≡ k → Holds ops (map js_of store) scope → IsBody k i (map stmt_without_places tree) → map stmt_without_places tree ≡ product_then k (operand_of first) factors inner
+      → ((v : ℤ) → (a : Arrives (Number v) inner tree scope ops (map js_of store) i) → Goes behind a.tree' a.scope' a.all (map js_of store) i (option_map Number (next v)))
+      → Goes behind tree scope ops (map js_of store) i (option_map Number ((number_in (operand_value store first) >>= (λ z. product_from store z factors)) >>= next))
+  product_then_goes first factors k i inner behind tree scope ops store kinds next ek hf hs len holds form same then =
+      let n = numeric store kinds first ek hf in
+      subst (λ d. Goes behind tree scope ops (map js_of store) i (option_map Number ((number_in d >>= (λ z. product_from store z factors)) >>= next))) (sym n.is)
+      (by (product_from store n.z factors) (product_goes factors n.z k i (operand_of first) inner tree scope ops store kinds ek hs (whole_stands store ops kinds first n.z hf n.is) len holds form same))
+    where
+      by : (r : Option ℤ) → Goes inner tree scope ops (map js_of store) i (option_map Number r) → Goes behind tree scope ops (map js_of store) i (option_map Number (r >>= next))
+      by (Some v) a = goes_on behind tree a.tree' scope a.scope' ops a.all (map js_of store) i (option_map Number (next v)) a.grows a.leads (then v a)
+      by None c = c
 
-    by : (o : Option Datum) → expression_value store value ≡ o → Goes behind tree ops store (option_map js_of o)
-        → ((d : Datum) → is_text kinds value ≡ kind_of d → (k : ℕ) (tree : List JsStmt) (ops : List Value) → length ops ≡ k → map without_place tree ≡ statements_from k (kinds ++ is_text kinds value ∷ []) program → Agree (source.statements program (store ++ d ∷ [])) (body 0 tree (stored ops (store ++ d ∷ []))))
-        → Agree (source.statements (dart_statements.Declare name value ∷ program) store) (body 0 tree (stored ops store))
-    by (Some d) is a next =
-        let past = given d a.p (statements_from a.k (kinds ++ is_text kinds value ∷ []) program) a.tree' a.all store a.value a.same in
-        agree_on (dart_statements.Declare name value) program store (store ++ d ∷ []) tree past.more (stored ops store) (stored a.all (store ++ d ∷ [])) [] (declare_comes name value store d is) (lead_on a.leads past.leads) (next d (expression_kind value store kinds d ek is) a.k past.more a.all a.count past.same)
-    by None is c next = agree_cut (dart_statements.Declare name value) program store tree (stored ops store) (statement_cuts (dart_statements.Declare name value) value source.declares store refl is) c
+  -- Sums.
+  addends_go : (addends : List Addend) (total : ℤ) (k i : ℕ) (sofar : JsPrimary) (behind : Behind) (tree : List JsStmt) (scope : Scope) (ops : List Value) (store : Store) (kinds : Kinds)
+      → map kind_of store ≡ kinds → AreAddends kinds addends → Stands ops (map js_of store) sofar (Number total) → length ops ≡ k → Holds ops (map js_of store) scope → IsBody k i (map stmt_without_places tree)
+      → map stmt_without_places tree ≡ addends_then k sofar addends behind → Goes behind tree scope ops (map js_of store) i (option_map Number (sum_from store total addends))
+  addends_go [] total k i sofar behind tree scope ops store kinds ek hs value len holds form same = arrives k sofar (Number total) behind tree scope ops (map js_of store) i len value same form holds
+  addends_go (addend ∷ addends) total k i sofar behind tree scope ops store kinds ek hs value len holds form same =
+      product_then_goes addend.product.first addend.product.rest k i inner behind tree scope ops store kinds (λ v. source.in_range (signed addend.sign total v) >>= (λ next. sum_from store next addends)) ek hs.0.0 hs.0.1 len holds form same
+      (λ v a. let_on a.k i (operator_of addend.sign) (signed addend.sign) sofar a.p (addends_then (suc a.k) (operation a.k) addends behind) a.tree' behind a.scope' a.all (map js_of store) total v (λ next. sum_from store next addends)
+      (same_sign addend.sign) a.count a.holds a.form a.same (stands_on ops a.all (map js_of store) a.grows value) a.stands
+      (λ z more scope' same form holds. addends_go addends z (suc a.k) i (operation a.k) behind more scope' (a.all ++ Number z ∷ []) store kinds ek hs.1 (of_operation a.k (Number z) (last_value a.all (Number z) a.k a.count)) (longer a.all z a.k a.count) holds form same))
+    where
+      inner : Behind
+      inner k' product = operation_let k' (operator_of addend.sign) sofar product ∷ addends_then (suc k') (operation k') addends behind
 
--- The tree is that of the translation, but for its places.
-pub same_run : (program : List Statement) (out : List ℕ) (tree : List JsStmt) (order : List ℕ) → IsWellFormed program → map without_place tree ≡ file_of program → SameRun (source.dart program order) (js (served out tree) order)
-same_run program out tree order h e =
-    let a = all_agree program 0 [] [] tree [] [] refl h refl e in
-    let f = source.dart program order in
-    let g = js (served out tree) order in
-    let main : ActOf First = sub (source.Main program) [] fin in
-    let start : ActOf Js = sub (target.Start 0 tree) target.empty fin in
-    let mf = is_meaning First (λ _. Done) Halted main in
-    let mg = is_meaning Js (λ _. Done) Halted start in
-    ⊎_elim
-    (λ h.
-    let hf : Comes First main source.Normal h.0.0 a.texts = comes_sub First (source.Main program) [] h.0.0 source.Normal a.texts h.0.1 in
-    let hg : Comes Js start target.Returned h.1.0 a.texts = comes_sub Js (target.Start 0 tree) target.empty h.1.0 target.Returned a.texts (comes_sub Js (target.Main 0 tree) target.empty h.1.0 target.Returned a.texts h.1.1) in
-    one_conclusion f g mf mg (hf.cost + 0) (hg.cost + 0) a.texts Done
-    (comes_run First (λ _. Done) Halted main source.Normal h.0.0 a.texts hf) (comes_run Js (λ _. Done) Halted start target.Returned h.1.0 a.texts hg))
-    (λ h.
-    let hf : Cuts First main Left a.texts = cuts_sub First (source.Main program) [] Left a.texts h.0 in
-    let hg : Cuts Js start Left a.texts = cuts_sub Js (target.Start 0 tree) target.empty Left a.texts (cuts_sub Js (target.Main 0 tree) target.empty Left a.texts h.1) in
-    one_conclusion f g mf mg (hf.cost + 0) (hg.cost + 0) a.texts (Halted Left)
-    (cuts_run First (λ _. Done) Halted main Left a.texts hf) (cuts_run Js (λ _. Done) Halted start Left a.texts hg))
-    a.how
+  -- a sum that is no operand alone, or is one that is a number
+  sum_goes : (first : Operand) (factors : List Operand) (addends : List Addend) (k i : ℕ) (behind : Behind) (tree : List JsStmt) (scope : Scope) (ops : List Value) (store : Store) (kinds : Kinds)
+      → map kind_of store ≡ kinds → IsNumeric kinds first → AreNumeric kinds factors → AreAddends kinds addends → length ops ≡ k → Holds ops (map js_of store) scope → IsBody k i (map stmt_without_places tree)
+      → map stmt_without_places tree ≡ product_then k (operand_of first) factors (λ k' product. addends_then k' product addends behind)
+      → Goes behind tree scope ops (map js_of store) i (option_map Number (sum_value store (record { first = record { first = first; rest = factors }; rest = addends })))
+  sum_goes first factors addends k i behind tree scope ops store kinds ek hf hs ha len holds form same =
+      product_then_goes first factors k i (λ k' product. addends_then k' product addends behind) behind tree scope ops store kinds (λ v. sum_from store v addends) ek hf hs len holds form same
+      (λ v a. addends_go addends v a.k i a.p behind a.tree' a.scope' a.all store kinds ek ha a.stands a.count a.holds a.form a.same)
+
+  abbrev made : Operand → List Operand → List Addend → Sum
+  made first factors addends = record { first = record { first = first; rest = factors }; rest = addends }
+
+  -- Expressions.
+  expression_goes : (value : Expression) (k i : ℕ) (behind : Behind) (tree : List JsStmt) (scope : Scope) (ops : List Value) (store : Store) (kinds : Kinds)
+      → map kind_of store ≡ kinds → IsExpression kinds value → length ops ≡ k → Holds ops (map js_of store) scope → IsBody k i (map stmt_without_places tree) → map stmt_without_places tree ≡ expression_then k value behind
+      → Goes behind tree scope ops (map js_of store) i (option_map js_of (expression_value store value))
+  expression_goes (expressions.Text text) k i behind tree scope ops store kinds ek he len holds form same = arrives k (alone (h.Str text)) (Str text) behind tree scope ops (map js_of store) i len (of_string text) same form holds
+  expression_goes (expressions.Sum sum) k i behind tree scope ops store kinds ek he len holds form same = by sum.first.first sum.first.rest sum.rest he same
+    where
+      by : (first : Operand) (factors : List Operand) (addends : List Addend) → IsSum kinds (made first factors addends) → map stmt_without_places tree ≡ expression_then k (expressions.Sum (made first factors addends)) behind
+          → Goes behind tree scope ops (map js_of store) i (option_map js_of (lone_or_sum store (made first factors addends) (lone (made first factors addends))))
+      by first [] [] he same =
+          let there = declared store kinds first ek he in
+          subst (λ d. Goes behind tree scope ops (map js_of store) i (option_map js_of d)) (sym there.is)
+          (arrives k (operand_of first) (js_of there.d) behind tree scope ops (map js_of store) i len (datum_stands store ops kinds first there.d he there.is) same form holds)
+      by first [] (addend ∷ addends) he same =
+          subst (Goes behind tree scope ops (map js_of store) i) (whole_numbers (sum_value store (made first [] (addend ∷ addends))))
+          (sum_goes first [] (addend ∷ addends) k i behind tree scope ops store kinds ek he.0.0 he.0.1 he.1 len holds form same)
+      by first (factor ∷ factors) addends he same =
+          subst (Goes behind tree scope ops (map js_of store) i) (whole_numbers (sum_value store (made first (factor ∷ factors) addends)))
+          (sum_goes first (factor ∷ factors) addends k i behind tree scope ops store kinds ek he.0.0 he.0.1 he.1 len holds form same)
+
+  -- Statements.
+
+  -- past the print of a value
+  record Past (i : ℕ) (rest tree : List JsStmt) (k : ℕ) (ops vars' : List Value) (scope : Scope) (texts : List (List ℕ)) : Type 0 where
+    more : List JsStmt
+    scope' : Scope
+    same : map stmt_without_places more ≡ rest
+    form : IsBody k i (map stmt_without_places more)
+    holds : Holds ops vars' scope'
+    leads : Leads (body place tree) (realm_at place scope) (body place more) (realm_at place scope') texts
+
+  printed : (d : Datum) (is_str : Bool) (p : JsPrimary) (rest tree : List JsStmt) (k i : ℕ) (ops vars : List Value) (scope : Scope) → is_str ≡ kind_of d → Stands ops vars p (js_of d) → Holds ops vars scope → IsBody k i (map stmt_without_places tree) → map stmt_without_places tree ≡ print_of is_str p ∷ rest
+      → Past i rest tree k ops vars scope (source.text_of d ∷ [])
+  printed d is_str p rest tree k i ops vars scope kind stands holds form is = record {
+    more = b.more;
+    scope' = scope;
+    same = b.same;
+    form = subst (IsBody k i) (sym b.same) (past_print (host_print (printed_of is_str p)) rest form is);
+    holds = holds;
+    leads = subst (λ t. Leads (body place t) (realm_at place scope) (body place b.more) (realm_at place scope) (source.text_of d ∷ [])) (sym b.is) (by d is_str kind stands);
+  }
+    where
+      b : Begins (λ at. s.Perform at (host_print (printed_of is_str p))) rest tree
+      b = begins_with_perform (host_print (printed_of is_str p)) (printed_placeless is_str (stands_placeless stands)) rest tree is
+
+      by : (d : Datum) (is_str : Bool) → is_str ≡ kind_of d → Stands ops vars p (js_of d) → Leads (body place (s.Perform b.at (host_print (printed_of is_str p)) ∷ b.more)) (realm_at place scope) (body place b.more) (realm_at place scope) (source.text_of d ∷ [])
+      by (Whole z) true kind stands = absurd (cc kind)
+      by (Whole z) false kind stands = past place b.more (number_printed place b.at p z outer holds stands)
+      by (Letters units) false kind stands = absurd (cc kind)
+      by (Letters units) true kind stands = past place b.more (text_printed place b.at p units outer holds stands)
+
+  given : (d : Datum) (p : JsPrimary) (rest tree : List JsStmt) (k i : ℕ) (ops : List Value) (store : Store) (scope : Scope) → length store ≡ i → Stands ops (map js_of store) p (js_of d) → Holds ops (map js_of store) scope → IsBody k i (map stmt_without_places tree) → map stmt_without_places tree ≡ variable_let i p ∷ rest
+      → Past (suc i) rest tree k ops (map js_of (store ++ d ∷ [])) scope []
+  given d p rest tree k i ops store scope len stands holds form is =
+      let b = begins_with_let (variable_name i) (e.Primary p) (places.primary p (stands_placeless stands)) rest tree is in
+      let on = past_declared (e.Primary p) rest form is in
+      record {
+        more = b.more;
+        scope' = bind scope (variable_name i) (Some (js_of d));
+        same = b.same;
+        form = subst (IsBody k (suc i)) (sym b.same) on.1;
+        holds = subst (λ vars. Holds ops vars (bind scope (variable_name i) (Some (js_of d)))) (sym (map_more js_of store d)) (holds_variable ops (map js_of store) scope i (js_of d) (length_map js_of store ∙ len) on.0 holds);
+        leads = subst (λ t. Leads (body place t) (realm_at place scope) (body place b.more) (realm_at place (bind scope (variable_name i) (Some (js_of d)))) []) (sym b.is) (past place b.more (variable_comes place b.at (variable_name i) p (js_of d) holds stands));
+      }
+
+  -- Both come to the same end, with the same texts.
+  pub record Agree (a : ActOf First) (tree : List JsStmt) (scope : Scope) : Type 0 where
+    pub texts : List (List ℕ)
+    pub how : (((store : Store) × Comes First a source.Normal store texts) × ((scope' : Scope) × Ends (body place tree) (realm_at place scope) (left_by (Return Null) (realm_at place scope')) texts)) ⊎ (Cuts First a Left texts × Ends (body place tree) (realm_at place scope) (cut Left) texts)
+
+  -- one statement on each side, and then those behind it
+  agree_on : (s : Statement) (program : List Statement) (before after : Store) (tree later : List JsStmt) (scope scope' : Scope) (texts : List (List ℕ))
+      → Comes First (sub (source.Statement s) before fin) source.Normal after texts → Leads (body place tree) (realm_at place scope) (body place later) (realm_at place scope') texts
+      → Agree (source.statements program after) later scope' → Agree (source.statements (s ∷ program) before) tree scope
+  agree_on s program before after tree later scope scope' texts comes leads a = record {
+    texts = texts ++ a.texts;
+    how =
+        ⊎_elim
+        (λ g. inl ((g.0.0, comes_bind First (sub (source.Statement s) before fin) (λ _ store. source.statements program store) source.Normal source.Normal after g.0.0 texts a.texts comes g.0.1), (g.1.0, leads_over leads g.1.1)))
+        (λ g. inr (cuts_then First (sub (source.Statement s) before fin) (λ _ store. source.statements program store) source.Normal after Left texts a.texts comes g.0, leads_over leads g.1))
+        a.how;
+  }
+
+  agree_cut : (s : Statement) (program : List Statement) (before : Store) (tree : List JsStmt) (scope : Scope) → Cuts First (sub (source.Statement s) before fin) Left [] → Ends (body place tree) (realm_at place scope) (cut Left) [] → Agree (source.statements (s ∷ program) before) tree scope
+  agree_cut s program before tree scope cuts c = record { texts = []; how = inr (cuts_first First (sub (source.Statement s) before fin) (λ _ store. source.statements program store) Left [] cuts, c) }
+
+  agree_end : (store : Store) (tree : List JsStmt) (scope : Scope) → map stmt_without_places tree ≡ s.Return 0 (e.Primary (alone h.Null)) ∷ [] → Agree (source.statements [] store) tree scope
+  agree_end store tree scope is =
+      let b = begins_with_return (e.Primary (alone h.Null)) last_placeless [] tree is in
+      record {
+        texts = [];
+        how = inl ((store, comes_fin First source.Normal store), (scope, subst (λ t. Ends (body place t) (realm_at place scope) (left_by (Return Null) (realm_at place scope)) []) (sym b.is) (over_at place b.more (returns place b.at (realm_at place scope)))));
+      }
+
+  pub all_agree : (program : List Statement) (k i : ℕ) (kinds : Kinds) (names : Names) (tree : List JsStmt) (scope : Scope) (ops : List Value) (store : Store)
+      → map kind_of store ≡ kinds → AreWellFormed kinds names program → length kinds ≡ i → length ops ≡ k → Holds ops (map js_of store) scope → IsBody k i (map stmt_without_places tree) → map stmt_without_places tree ≡ statements_from k kinds program
+      → Agree (source.statements program store) tree scope
+  all_agree [] k i kinds names tree scope ops store ek hp li len holds form same = agree_end store tree scope same
+  all_agree (dart_statements.Print value ∷ program) k i kinds names tree scope ops store ek hp li len holds form same =
+      by (expression_value store value) refl (expression_goes value k i behind tree scope ops store kinds ek hp.0 len holds form same) (λ k tree scope ops. all_agree program k i kinds names tree scope ops store ek hp.1 li)
+    where
+      behind : Behind
+      behind k' p = print_of (is_text kinds value) p ∷ statements_from k' kinds program
+
+      by : (r : Option Datum) → expression_value store value ≡ r → Goes behind tree scope ops (map js_of store) i (option_map js_of r)
+          → ((k : ℕ) (tree : List JsStmt) (scope : Scope) (ops : List Value) → length ops ≡ k → Holds ops (map js_of store) scope → IsBody k i (map stmt_without_places tree) → map stmt_without_places tree ≡ statements_from k kinds program → Agree (source.statements program store) tree scope)
+          → Agree (source.statements (dart_statements.Print value ∷ program) store) tree scope
+      by (Some d) is a next =
+          let past = printed d (is_text kinds value) a.p (statements_from a.k kinds program) a.tree' a.k i a.all (map js_of store) a.scope' (expression_kind value store kinds d ek is) a.stands a.holds a.form a.same in
+          agree_on (dart_statements.Print value) program store store tree past.more scope past.scope' (source.text_of d ∷ []) (print_comes value store d is) (leads_on a.leads past.leads) (next a.k past.more past.scope' a.all a.count past.holds past.form past.same)
+      by None is c next = agree_cut (dart_statements.Print value) program store tree scope (statement_cuts (dart_statements.Print value) value source.prints store refl is) c
+  all_agree (dart_statements.Declare name value ∷ program) k i kinds names tree scope ops store ek hp li len holds form same =
+      by (expression_value store value) refl (expression_goes value k i behind tree scope ops store kinds ek hp.2 len holds form same')
+      (λ d kind k tree scope ops. all_agree program k (suc i) (kinds ++ is_text kinds value ∷ []) (names ++ name ∷ []) tree scope ops (store ++ d ∷ []) (more_kinds d kind) hp.3 li')
+    where
+      behind : Behind
+      behind k' p = variable_let i p ∷ statements_from k' (kinds ++ is_text kinds value ∷ []) program
+
+      same' : map stmt_without_places tree ≡ expression_then k value behind
+      same' = subst (λ i. map stmt_without_places tree ≡ expression_then k value (λ k' p. variable_let i p ∷ statements_from k' (kinds ++ is_text kinds value ∷ []) program)) li same
+
+      li' : length (kinds ++ is_text kinds value ∷ []) ≡ suc i
+      li' = omega (arith, length-append kinds (is_text kinds value ∷ []), li)
+
+      more_kinds : (d : Datum) → is_text kinds value ≡ kind_of d → map kind_of (store ++ d ∷ []) ≡ kinds ++ is_text kinds value ∷ []
+      more_kinds d kind = map_more kind_of store d ∙ (λ j. ek j ++ sym kind j ∷ [])
+
+      count : length store ≡ i
+      count = sym (length_map kind_of store) ∙ ap length ek ∙ li
+
+      by : (r : Option Datum) → expression_value store value ≡ r → Goes behind tree scope ops (map js_of store) i (option_map js_of r)
+          → ((d : Datum) → is_text kinds value ≡ kind_of d → (k : ℕ) (tree : List JsStmt) (scope : Scope) (ops : List Value) → length ops ≡ k → Holds ops (map js_of (store ++ d ∷ [])) scope → IsBody k (suc i) (map stmt_without_places tree) → map stmt_without_places tree ≡ statements_from k (kinds ++ is_text kinds value ∷ []) program → Agree (source.statements program (store ++ d ∷ [])) tree scope)
+          → Agree (source.statements (dart_statements.Declare name value ∷ program) store) tree scope
+      by (Some d) is a next =
+          let past = given d a.p (statements_from a.k (kinds ++ is_text kinds value ∷ []) program) a.tree' a.k i a.all store a.scope' count a.stands a.holds a.form a.same in
+          agree_on (dart_statements.Declare name value) program store (store ++ d ∷ []) tree past.more scope past.scope' [] (declare_comes name value store d is) (leads_on a.leads past.leads) (next d (expression_kind value store kinds d ek is) a.k past.more past.scope' a.all a.count past.holds past.form past.same)
+      by None is c next = agree_cut (dart_statements.Declare name value) program store tree scope (statement_cuts (dart_statements.Declare name value) value source.declares store refl is) c

@@ -1,5 +1,11 @@
-pub mod Small
+pub mod Places
+pub mod Names
+pub mod Body
+pub mod Leading
+pub mod Emitted
 pub mod Agreement
+pub mod Whole
+pub mod Small
 pub mod Translating
 pub mod Lists
 pub mod Derived
@@ -7,4 +13,14 @@ pub mod Refusing
 pub mod Judging
 pub mod Loads
 pub mod Finished
+pub mod Numbers
+pub mod Orders
+pub mod Choices
+pub mod Meanings
+pub mod HandedOn
+pub mod Shards
+pub mod Sayings
+pub mod Spelled
+pub mod FileNames
+pub mod Endings
 pub mod Complete

@@ -1,65 +1,47 @@
 -- The translation of a program that was read is a spelling of a tree that runs as the program does.
-use Rattle.std.proofs.Common.{◌≡◌, ◌<◌, ◌^◌, ℕ, suc, Bool, true, false, List, [], ◌∷◌, ◌++◌, length, map, refl, sym, ap, ◌∙◌}
+use Rattle.std.proofs.Common.{◌≡◌, ◌<◌, ◌^◌, ℕ, List, [], ◌∷◌, length, map, refl, sym, ap, ◌∙◌}
+use Rattle.std.specs.Prelude.{codes}
 use Rattle.dart_syntax.specs.declared.tokens.Token.{Token}
-use Rattle.dart_meaning.specs.declared.program.Operand.{Operand}
-use Rattle.dart_meaning.specs.declared.program.Addend.{Addend}
-use Rattle.dart_meaning.specs.declared.program.Expression.{Expression}
-use Rattle.dart_meaning.specs.declared.program.Expression.TheVariants as expressions
 use Rattle.dart_meaning.specs.declared.program.Statement.{Statement}
-use Rattle.dart_meaning.specs.declared.program.Statement.TheVariants as statements
-use Rattle.dart_meaning.specs.Program.{Kinds, is_text, IsProgram}
-use Rattle.js_meaning.specs.declared.tree.Operand.{Operand as JsOperand}
-use Rattle.js_meaning.specs.declared.tree.Operand.TheVariants.{Operation, Str}
-use Rattle.js_meaning.specs.declared.tree.Operator.TheVariants.{Times}
-use Rattle.js_meaning.specs.declared.tree.JsStmt.{JsStmt}
-use Rattle.js_meaning.specs.declared.tree.JsStmt.TheVariants.{Let, Var}
-use Rattle.js_meaning.specs.Spelling.{without_place}
-use Rattle.js_meaning.proofs.Canonical.{text_spelled}
-use Rattle.dart_web_cli.specs.Translation.{operand_of, operator_of, Behind, product_then, addends_then, expression_then, print_of, statements_from, file_of, translation, RunsAs, TranslationIsRight}
-use Rattle.dart_web_cli.proofs.Small.{file_in_range}
-use Rattle.dart_web_cli.proofs.Agreement.{same_run}
+use Rattle.dart_meaning.specs.Program.{IsProgram}
+use Rattle.js_tree.specs.declared.tree.JsFunction.{JsFunction}
+use Rattle.js_tree.specs.declared.tree.JsItem.{JsItem}
+use Rattle.js_tree.specs.declared.tree.JsItem.TheVariants as i
+use Rattle.js_tree.specs.declared.tree.JsStmt.{JsStmt}
+use Rattle.js_tree.specs.Places.{stmt_without_places, function_without_places, item_without_places}
+use Rattle.js_tree.specs.Spelling as has
+use Rattle.js_tree.specs.Spelling.{HasSpelling}
+use Rattle.js_tree.proofs.Unplaced.{same_function}
+use Rattle.js_tree.proofs.Statements.{text_spelled}
+use Rattle.dart_web_cli.specs.Translation.{statements_from, file_of, translation, RunsAs, TranslationIsRight}
+use Rattle.dart_web_cli.proofs.Places.{perform_bare}
+use Rattle.dart_web_cli.proofs.Body.{IsBody, body_bare, body_spelled, all_fresh}
+use Rattle.dart_web_cli.proofs.Small.{program_body}
+use Rattle.dart_web_cli.proofs.Whole.{main_call, call_placeless, same_run}
 
--- The tree of the translation has no places.
+-- the file of a body has a spelling
+spelled : (program : List Statement) → IsBody 0 0 (statements_from 0 [] program) → HasSpelling (file_of program)
+spelled program form =
+    has.function_item refl refl (has.function_of refl (body_spelled [] all_fresh form))
+    (has.statement (has.perform (has.primary_of (has.name refl) (has.call has.no_exprs has.no_selectors))) has.no_items)
 
-abbrev HasNoPlace : List JsStmt → Type 0
-HasNoPlace tree = map without_place tree ≡ tree
+abbrev function_with : List JsStmt → JsFunction
+function_with body = record { parameters = []; body = body }
 
-abbrev HaveNoPlace : Behind → Type 0
-HaveNoPlace behind = (k : ℕ) (p : JsOperand) → HasNoPlace (behind k p)
-
-product_unplaced : (factors : List Operand) (k : ℕ) (sofar : JsOperand) (behind : Behind) → HaveNoPlace behind → HasNoPlace (product_then k sofar factors behind)
-product_unplaced [] k sofar behind h = h k sofar
-product_unplaced (factor ∷ factors) k sofar behind h = ap (λ r. Let 0 Times sofar (operand_of factor) ∷ r) (product_unplaced factors (suc k) (Operation k) behind h)
-
-addends_unplaced : (addends : List Addend) (k : ℕ) (sofar : JsOperand) (behind : Behind) → HaveNoPlace behind → HasNoPlace (addends_then k sofar addends behind)
-addends_unplaced [] k sofar behind h = h k sofar
-addends_unplaced (addend ∷ addends) k sofar behind h =
-    product_unplaced addend.product.rest k (operand_of addend.product.first) _
-    (λ k' product. ap (λ r. Let 0 (operator_of addend.sign) sofar product ∷ r) (addends_unplaced addends (suc k') (Operation k') behind h))
-
-expression_unplaced : (value : Expression) (k : ℕ) (behind : Behind) → HaveNoPlace behind → HasNoPlace (expression_then k value behind)
-expression_unplaced (expressions.Text text) k behind h = h k (Str text)
-expression_unplaced (expressions.Sum sum) k behind h =
-    product_unplaced sum.first.rest k (operand_of sum.first.first) _ (λ k' first. addends_unplaced sum.rest k' first behind h)
-
-print_unplaced : (is_str : Bool) (p : JsOperand) → without_place (print_of is_str p) ≡ print_of is_str p
-print_unplaced true p = refl
-print_unplaced false p = refl
-
-unplaced : (program : List Statement) (k : ℕ) (kinds : Kinds) → HasNoPlace (statements_from k kinds program)
-unplaced [] k kinds = refl
-unplaced (statements.Print value ∷ program) k kinds =
-    expression_unplaced value k _ (λ k' p i. print_unplaced (is_text kinds value) p i ∷ unplaced program k' kinds i)
-unplaced (statements.Declare name value ∷ program) k kinds =
-    expression_unplaced value k _ (λ k' p. ap (λ r. Var 0 p ∷ r) (unplaced program k' (kinds ++ is_text kinds value ∷ [])))
+-- the tree of the translation has no places
+unplaced : (program : List Statement) → IsBody 0 0 (statements_from 0 [] program) → map item_without_places (file_of program).items ≡ (file_of program).items
+unplaced program form =
+    let body : function_without_places (function_with (statements_from 0 [] program)) ≡ function_with (statements_from 0 [] program) = same_function (function_with (statements_from 0 [] program)) ∙ ap function_with (body_bare form) in
+    (λ j. i.Declared (codes "main$") (body j) ∷ i.Statement (perform_bare main_call call_placeless j) ∷ [])
 
 pub translation_is_right : TranslationIsRight
 translation_is_right tokens out program few is =
-    let spelled = text_spelled (file_of program) (file_in_range tokens program few is) in
+    let form = program_body tokens program few is in
+    let text = text_spelled (file_of program) (spelled program form) in
     record {
-      tree = spelled.0;
-      spelled = spelled.2;
-      same = λ order. same_run program out spelled.0 order is.well_formed (sym spelled.1.same ∙ unplaced program 0 []);
+      tree = text.0;
+      spelled = text.2;
+      same = λ order. same_run program out text.0 order is.well_formed form (sym text.1.same ∙ unplaced program form);
     }
 
 pub runs_of : (tokens : List Token) (program : List Statement) → IsProgram tokens program → length tokens < 2 ^ 64 → (name : List ℕ) → RunsAs program name (translation program)

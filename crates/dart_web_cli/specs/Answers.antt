@@ -26,6 +26,10 @@ refused_line rule entry at = codes "refused " ++ (name_of rule ++ (32 ∷ (entry
 abbrev pub cannot_line : List ℕ → List ℕ
 cannot_line entry = codes "cannot read " ++ (entry ++ (10 ∷ []))
 
+-- the file, and the place where it shows that it is not in the subset
+abbrev pub outside_line : List ℕ → ℕ → List ℕ
+outside_line name at = codes "not in profile " ++ (name ++ (32 ∷ (decimal at ++ (10 ∷ []))))
+
 -- what tokens of a file that isn't the prelude come to
 abbrev pub JudgesTokens : List Token → Loaded → Type 0
 JudgesTokens tokens (Translated out) =

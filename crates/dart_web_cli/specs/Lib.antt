@@ -2,6 +2,11 @@ pub mod Words
 pub mod Commands
 pub mod Translation
 pub mod Refusals
+pub mod Scripts
+pub mod ScriptAnswers
+pub mod ScriptLaws
+pub mod RunLines
 pub mod Answers
 pub mod RefusalLaws
 pub mod TopCall
+pub mod RunAnswers

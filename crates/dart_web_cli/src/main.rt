@@ -1,14 +1,22 @@
-//! The program: `compile ENTRY OUT` over the files of the machine and standard output.
+//! The program: `compile ENTRY OUT` and `runjs OUT` over the files of the machine and standard output.
 //!
-//! - [`words`]: the command that words are.
+//! - [`words`]: the command that words are; [`options`]: the options of a run.
 //! - [`load`]: from an entry to its translation, or the first rule that it breaks.
-//! - [`translate`]: the translation and its promise.
-//! - [`lines`]: what is said.
+//! - [`translate`]: the translation and its promise; [`parts`]: the parts of its trees.
+//! - [`scripts`]: from OUT to the trees of its scripts, or the first of them that is not in the subset.
+//! - [`runs`]: the run of scripts, and what is said of it.
+//! - [`lines`]: the lines that are said.
 //! - [`top`]: the top call.
 #![tactic(auto)]
 
 pub mod lines;
 pub mod load;
+pub mod options;
+mod parts;
+#[cfg(test)]
+mod run_tests;
+pub mod runs;
+pub mod scripts;
 #[cfg(test)]
 mod tests;
 pub mod top;

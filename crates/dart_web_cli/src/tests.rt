@@ -2,7 +2,9 @@ use super::*;
 use crate::translate::compile_first;
 use code_units::{Bytes, End, Files, NamedFile, NumberList, RunEnd, Text};
 use dart_tokens::scan;
-use js_meaning::{NamedTree, read_file, run_js};
+use js_reader::read_file;
+use js_run::run_to;
+use js_tree::NamedTree;
 use outside::{MemSink, MemSource};
 use sqlite_items::Items;
 use std::alloc::Global;
@@ -343,7 +345,7 @@ fn read_back(alloc: Global, file: &[u8]) -> Result<RunEnd, Fail> {
         name: Text::from_str(alloc, "out.js")?,
         tree,
     })?;
-    Ok(run_js(alloc, &files, &[], 1000)?)
+    Ok(run_to(alloc, &files, 200, &[], 1000)?)
 }
 
 #[test]

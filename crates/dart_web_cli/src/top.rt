@@ -1,12 +1,15 @@
 //! The top call.
 ghost use Rattle.std.specs.Prelude.{◌≡◌};
-ghost use Rattle.dart_web_cli.specs.Words.{IsCompile};
+ghost use Rattle.dart_web_cli.specs.Words.{IsCompile, IsRunJs};
 ghost use Rattle.dart_web_cli.specs.TopCall.{code_of, Means, IsComplete, Finishes};
 
-use crate::lines::{cannot_line, refused_line, usage_line};
+use crate::lines::{cannot_line, outside_line, refused_line, usage_line};
 use crate::load::{Loaded, load};
+use crate::runs::run_scripts;
+use crate::scripts::{ScriptFault, read_scripts};
 use crate::words::{Command, WordsFault, read_words};
 use code_units::{Bytes, Words};
+use dart_syntax::Rule;
 use outside::{Sink, Source};
 use std::alloc::{AllocError, Global};
 
@@ -107,6 +110,46 @@ fn compile<S: Source, K: Sink>(
     }
 }
 
+// runjs OUT with these options, which the words are.
+fn run_js<S: Source, K: Sink>(
+    alloc: Global,
+    words: &Words,
+    out: &str,
+    steps: u64,
+    order: &[u32],
+    source: &mut S,
+    sink: &mut K,
+) -> Status
+    requires { IsRunJs words.now out.now steps order.now }
+    ensures { Means (record {
+      words = words.now;
+      old = record { files = S.files source.old; faults = S.faults source.old };
+      new = record { files = S.files source.new; faults = S.faults source.new };
+      before = record { files = K.files sink.old; said = K.said sink.old; faults = K.faults sink.old };
+      now = record { files = K.files sink.new; said = K.said sink.new; faults = K.faults sink.new };
+    }) result }
+{
+    match read_scripts(alloc, source, out) {
+        Ok(trees) => run_scripts(alloc, sink, &trees, order, steps),
+        Err(ScriptFault::Absent) => finish(
+            sink,
+            refused_line(alloc, Rule::U1, out, 0),
+            Status::Refused,
+        ),
+        Err(ScriptFault::Outside { name, at }) => finish(
+            sink,
+            outside_line(alloc, name.as_str(), at),
+            Status::NotInProfile,
+        ),
+        Err(ScriptFault::Failed { name }) => finish(
+            sink,
+            cannot_line(alloc, name.as_str()),
+            Status::ReadFault,
+        ),
+        Err(ScriptFault::Memory) => Status::Memory,
+    }
+}
+
 // The command that the words are.
 fn carry_out<S: Source, K: Sink>(
     alloc: Global,
@@ -122,9 +165,13 @@ fn carry_out<S: Source, K: Sink>(
       now = record { files = K.files sink.new; said = K.said sink.new; faults = K.faults sink.new };
     }) result }
 {
-    match read_words(words) {
+    match read_words(alloc, words) {
         Err(WordsFault::Usage) => finish(sink, usage_line(alloc), Status::Usage),
+        Err(WordsFault::Memory) => Status::Memory,
         Ok(Command::Compile { entry, out }) => compile(alloc, words, entry, out, source, sink),
+        Ok(Command::RunJs { out, steps, order }) => {
+            run_js(alloc, words, out, steps, order.as_slice(), source, sink)
+        }
     }
 }
 

@@ -1,9 +1,0 @@
-use Rattle.std.proofs.Common.{◌≡◌, length}
-use Rattle.js_meaning.specs.Scanner as spec
-use Rattle.js_meaning.proofs.scan.past.Given as goal
-
-abbrev pub invariant-bytes : goal.invariant-bytes
-invariant-bytes l = spec.back l.class l.rest ≡ spec.back l.class l.fn.bytes
-
-abbrev pub decreases-bytes : goal.decreases-bytes
-decreases-bytes l = length l.rest
