@@ -16,3 +16,5 @@ mod reuses;
 mod rivals;
 #[cfg(test)]
 mod rows;
+#[cfg(test)]
+mod sites;

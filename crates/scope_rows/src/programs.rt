@@ -63,7 +63,7 @@ fn is_program(files: &[SourceFile]) -> bool
 }
 
 /// The tree of the file of this number, which has these bytes.
-fn tree_of(alloc: Global, number: u32, bytes: &[u8]) -> Result<FileTree, NoProgram> {
+pub fn tree_of(alloc: Global, number: u32, bytes: &[u8]) -> Result<FileTree, NoProgram> {
     if bytes.len() > 100_000_000 {
         return Err(NoProgram::BadFile(number));
     }
