@@ -46,6 +46,7 @@ pub arguments_parts : (a : Arguments) → arguments_in a ≡ record {
 arguments_parts = fold_out-Arguments Sites ExprSites HeadSites OptionalSites SelectorSites StmtSites (Use → Sites) VariableSites ArgumentsSites Sites ChainSites Sites Sites ParametersSites VariablesSites body_form expr_form head_form optional_form selector_form stmt_form target_form variable_form arguments_form catch_form chain_form entry_form interpolation_form parameters_form variables_form
 
 pub parameters_parts : (ps : Parameters) → parameters_in ps ≡ record {
+  count = length ps.required + length (map optional_in ps.optional);
   locals = list_locals ps.required (map optional_in ps.optional);
   sites = list_sites ps.span ps.required (map optional_in ps.optional);
 }
@@ -108,6 +109,9 @@ chain_sites c = ap (λ z. z.sites) (chain_parts c)
 
 pub chain_receiver : (c : Chain) → (chain_in c).receiver ≡ receiver_behind (head_in c.head).receiver (map selector_in c.selectors)
 chain_receiver c = ap (λ z. z.receiver) (chain_parts c)
+
+pub parameters_count : (ps : Parameters) → (parameters_in ps).count ≡ length ps.required + length ps.optional
+parameters_count ps = ap (λ z. z.count) (parameters_parts ps) ∙ ap (λ n. length ps.required + n) (as_many_optional ps.optional)
 
 pub parameters_locals : (ps : Parameters) → (parameters_in ps).locals ≡ list_locals ps.required (map optional_in ps.optional)
 parameters_locals ps = ap (λ z. z.locals) (parameters_parts ps)

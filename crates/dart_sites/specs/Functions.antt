@@ -1,5 +1,5 @@
 -- What stands in parameter lists, and around the bodies of functions.
-use Rattle.std.specs.Prelude.{Bool, ◌+◌, List, [], ◌∷◌, ◌++◌, length, Option, Some, None}
+use Rattle.std.specs.Prelude.{ℕ, Bool, ◌+◌, List, [], ◌∷◌, ◌++◌, length, Option, Some, None}
 use Rattle.std.specs.List.{flat_map}
 use Rattle.dart_grammar.specs.declared.trees.Span.{Span}
 use Rattle.dart_grammar.specs.declared.trees.Name.{Name}
@@ -14,6 +14,7 @@ use Rattle.dart_sites.specs.Sites.{Sites, here, ◌▸◌, each}
 
 -- A parameter list, by what is around the function; then by what is in it.
 pub record ParametersSites : Type 0 where
+  pub count : ℕ
   pub locals : List Local
   pub sites : Surroundings → Sites
 

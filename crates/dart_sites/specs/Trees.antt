@@ -1,5 +1,5 @@
 -- What stands in each form of the grammar of expressions and statements.
-use Rattle.std.specs.Prelude.{Bool, true, false, ◌&&◌, List, [], ◌∷◌, length, Some}
+use Rattle.std.specs.Prelude.{Bool, true, false, ◌&&◌, ◌+◌, List, [], ◌∷◌, length, Some}
 use Rattle.dart_grammar.specs.declared.trees.Span.{Span}
 use Rattle.dart_grammar.specs.declared.trees.PrefixOperator.TheVariants as p
 use Rattle.dart_grammar.specs.declared.trees.Body.TheOpen.{Body-F, Expr-F, Head-F, OptionalParameter-F, Selector-F, Stmt-F, Target-F, Variable-F, Arguments-F, Catch-F, Chain-F, Entry-F, Interpolation-F, Parameters-F, Variables-F}
@@ -84,7 +84,7 @@ head_form (Head-F.Number at n) = record { is_number = true; is_constant = true; 
 head_form (Head-F.Texts at units ps) = record { is_number = false; is_constant = has_no_parts ps; receiver = r.Other; sites = λ last. each (λ y. y) ps }
 head_form (Head-F.New at names args) = value (here (x.Made at names args.count) ▸ args.sites)
 head_form (Head-F.Parenthesised at a) = value a.sites
-head_form (Head-F.Literal at ps body) = value (here (x.Literal at) ▸ function_sites ps body)
+head_form (Head-F.Literal at ps body) = value (here (x.Literal at ps.count) ▸ function_sites ps body)
 head_form (Head-F.List at items) = value (each (λ y. y.sites) items)
 head_form (Head-F.Map at entries) = value (each (λ y. y) entries)
 
@@ -127,7 +127,11 @@ target_form (Target-F.IndexOf c at a) how = c.sites u.Read ▸ index_operated at
 -- ---- functions
 
 abbrev pub parameters_form : Parts Parameters-F → ParametersSites
-parameters_form ps = record { locals = list_locals ps.required ps.optional; sites = list_sites ps.span ps.required ps.optional }
+parameters_form ps = record {
+  count = length ps.required + length ps.optional;
+  locals = list_locals ps.required ps.optional;
+  sites = list_sites ps.span ps.required ps.optional;
+}
 
 abbrev pub optional_form : Parts OptionalParameter-F → OptionalSites
 optional_form (OptionalParameter-F.WithoutDefault y) = record { parameter = y; sites = λ outside. parameter_sites y }
@@ -153,7 +157,7 @@ stmt_form (Stmt-F.Nested at xs) = silent (block xs)
 stmt_form (Stmt-F.Declare at vs) = record { locals = variable_locals l.Variable vs; sites = local_variables vs }
 stmt_form (Stmt-F.LocalFunction at y ps body) = record {
   locals = name_local l.Function false y ∷ [];
-  sites = here (x.LocalFunction at y) ▸ here (x.Local y) ▸ function_sites ps body;
+  sites = here (x.LocalFunction at y ps.count) ▸ here (x.Local y) ▸ function_sites ps body;
 }
 stmt_form (Stmt-F.Empty at) = silent none
 stmt_form (Stmt-F.Evaluate at a) = silent a.sites

@@ -613,3 +613,27 @@ pub fn visit_file<V: Visitor + Drop>(
     let Tour { visitor, .. } = tour;
     Ok(visitor)
 }
+
+/// Shows a visitor each site of a class with what is around it, in the order in which they stand, and answers the visitor: those that
+/// [`visit_file`] shows between the class itself and its last member.
+pub fn visit_class<V: Visitor + Drop>(
+    alloc: Global,
+    class: &Class,
+    visitor: V,
+) -> Result<V, AllocError>
+    ensures { IfOk result (λ v. v ≡ visited V.step (spec.class_in class.now) visitor) }
+{
+    let walker = Walker {
+        depth: usize::MAX,
+        expr: expr_to,
+        stmt: stmt_to,
+        visitor: PhantomData,
+    };
+    let mut tour = Tour {
+        visitor,
+        scopes: Scopes::new(alloc),
+    };
+    walker.class(&mut tour, class)?;
+    let Tour { visitor, .. } = tour;
+    Ok(visitor)
+}

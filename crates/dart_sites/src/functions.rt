@@ -23,6 +23,14 @@ use crate::walker::Walker;
 use dart_grammar::trees::{Body, Expr, Name, OptionalParameter, Parameter, Parameters, Span, Stmt};
 use std::alloc::AllocError;
 
+/// How many parameters a list has.
+#[tactic(auto, using(crate::proofs::Parts::parameters_count))]
+fn count_of(parameters: &Parameters) -> usize
+    ensures { result ≡ (parameters_in parameters.now).count }
+{
+    parameters.required.len() + parameters.optional.len()
+}
+
 impl<
     V: Visitor,
     E: for<'a> Fn(usize, &mut Tour<'a, V>, &Place<'_, 'a>, &'a Expr) -> Result<(), AllocError>,
@@ -207,10 +215,10 @@ impl<
         body: &'a Body,
     ) -> Result<(), AllocError>
         requires { Walks V.step self.now.depth (E.pre self.now.expr) (E.post self.now.expr) (S.pre self.now.stmt) (S.post self.now.stmt) }
-        ensures sites { OnOk result (tour.new.visitor ≡ past V.step (both (here (x.Literal span)) (spec.function_sites (parameters_in parameters.now) (body_in body.now))) place.now tour.old) }
+        ensures sites { OnOk result (tour.new.visitor ≡ past V.step (both (here (x.Literal span (parameters_in parameters.now).count)) (spec.function_sites (parameters_in parameters.now) (body_in body.now))) place.now tour.old) }
         ensures scopes { OnOk result (tour.new.scopes ≡ tour.old.scopes) }
     {
-        tour.visit(place, &Site::Literal(span))?;
+        tour.visit(place, &Site::Literal(span, count_of(parameters)))?;
         self.with_parameters(tour, place, &place.functioned(), parameters, body)
     }
 
@@ -225,10 +233,13 @@ impl<
         body: &'a Body,
     ) -> Result<(), AllocError>
         requires { Walks V.step self.now.depth (E.pre self.now.expr) (E.post self.now.expr) (S.pre self.now.stmt) (S.post self.now.stmt) }
-        ensures sites { OnOk result (tour.new.visitor ≡ past V.step (both (here (x.LocalFunction span name.now)) (both (here (x.Local name.now)) (spec.function_sites (parameters_in parameters.now) (body_in body.now)))) place.now tour.old) }
+        ensures sites { OnOk result (tour.new.visitor ≡ past V.step (both (here (x.LocalFunction span name.now (parameters_in parameters.now).count)) (both (here (x.Local name.now)) (spec.function_sites (parameters_in parameters.now) (body_in body.now)))) place.now tour.old) }
         ensures scopes { OnOk result (tour.new.scopes ≡ tour.old.scopes) }
     {
-        tour.visit(place, &Site::LocalFunction(span, Lent::new(name)))?;
+        tour.visit(
+            place,
+            &Site::LocalFunction(span, Lent::new(name), count_of(parameters)),
+        )?;
         tour.visit(place, &Site::Local(Lent::new(name)))?;
         self.with_parameters(tour, place, &place.functioned(), parameters, body)
     }

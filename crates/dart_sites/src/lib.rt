@@ -5,8 +5,10 @@
 //! - [`finding`]: the declaration that a name has in the scopes around it.
 //! - [`surroundings`]: what is around a place.
 //! - [`sites`]: what stands at a place.
+//! - [`locals`]: the names that statements and parameter lists declare.
 //! - [`visitor`]: what is done at each place.
 //! - [`visit_file`]: goes through all places of a file.
+//! - [`visit_class`]: goes through all places of a class.
 #![tactic(auto)]
 
 mod asked;
@@ -17,7 +19,7 @@ pub mod finding;
 mod functions;
 mod knot;
 pub mod lent;
-mod locals;
+pub mod locals;
 mod place;
 pub mod scopes;
 pub mod sites;
@@ -27,7 +29,7 @@ mod tour;
 pub mod visitor;
 mod walker;
 
-pub use files::visit_file;
+pub use files::{visit_class, visit_file};
 pub use finding::find;
 pub use sites::Site;
 pub use surroundings::Surroundings;

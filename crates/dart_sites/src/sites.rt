@@ -69,8 +69,8 @@ pub enum Site<'a> {
     Operated(Span, OperatorName, bool),
     /// `-` before an operand
     Negated(Span),
-    /// A function literal.
-    Literal(Span),
+    /// A function literal with so many parameters.
+    Literal(Span, usize),
     /// `(..)` with so many arguments
     ArgumentList(Span, usize),
 
@@ -84,8 +84,8 @@ pub enum Site<'a> {
     /// `return value;`
     ReturnValue(Span),
     Rethrow(Span),
-    /// A local function, from the first token of its statement.
-    LocalFunction(Span, Lent<'a, Name>),
+    /// A local function with so many parameters, from the first token of its statement.
+    LocalFunction(Span, Lent<'a, Name>, usize),
 
     // ---- what scopes declare
     /// A name that the innermost scope declares.

@@ -32,7 +32,7 @@ use Rattle.js_tree.specs.Places.{primary_without_places, expr_without_places, st
 use Rattle.js_store.specs.Scopes.{Scope, bind}
 use Rattle.js_store.specs.declared.value.Value.{Value}
 use Rattle.js_store.specs.declared.value.Value.TheVariants.{Null, Number, Str, Host}
-use Rattle.js_run.specs.declared.state.Leave.TheVariants.{Return}
+use Rattle.js_meaning.specs.declared.state.Leave.TheVariants.{Return}
 use Rattle.dart_web_cli.specs.Translation.{operation_name, variable_name, alone, host_print, string_of, operation_let, variable_let, operand_of, operator_of, operation, Behind, product_then, addends_then, expression_then, printed_of, print_of, statements_from}
 use Rattle.dart_web_cli.proofs.Leading.{Leads, Ends, cut, left_by, stays, leads_on, leads_over}
 use Rattle.dart_web_cli.proofs.Places as places

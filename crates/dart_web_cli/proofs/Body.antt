@@ -18,7 +18,7 @@ use Rattle.js_tree.specs.Places.{expr_without_places, primary_without_places, st
 use Rattle.js_tree.specs.Spelling as has
 use Rattle.js_tree.specs.Spelling.{are_units, HasExpr, HasPrimary, HaveStmts}
 use Rattle.js_store.specs.Scopes.{Scope, bind}
-use Rattle.js_run.specs.Statements.{with_let, with_lets}
+use Rattle.js_meaning.specs.Statements.{with_let, with_lets}
 use Rattle.dart_web_cli.specs.Translation.{operation_name, variable_name, alone, host_print, string_of, operation_let, variable_let, last_statement, printed_of, print_of}
 use Rattle.dart_web_cli.proofs.Places as places
 use Rattle.dart_web_cli.proofs.Places.{IsPlaceless, let_bare, perform_bare, return_bare, with_let_bare}

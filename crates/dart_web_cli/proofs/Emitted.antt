@@ -26,23 +26,23 @@ use Rattle.js_store.specs.declared.store.Store.{Store}
 use Rattle.js_store.specs.declared.host.Host.{Host as HostState}
 use Rattle.js_store.specs.declared.value.Value.{Value}
 use Rattle.js_store.specs.declared.value.Value.TheVariants.{Undefined, Null, Number, Str, Host}
-use Rattle.js_run.specs.declared.state.Realm.{Realm}
-use Rattle.js_run.specs.declared.state.Spot.{Spot}
-use Rattle.js_run.specs.declared.state.Here.{Here}
-use Rattle.js_run.specs.declared.state.Around.{Around}
-use Rattle.js_run.specs.declared.state.Leave.TheVariants.{Return}
-use Rattle.js_run.specs.declared.state.Callee.{Callee}
-use Rattle.js_run.specs.declared.state.Callee.TheVariants.{StringOf, Method}
-use Rattle.js_run.specs.Machine.{Ending}
-use Rattle.js_run.specs.Prog.{Prog, ◌>>=◌, ◌>>◌, pure, left, or_stuck, leave, perform, call}
-use Rattle.js_run.specs.Parts.{Expr, values, values_from, selected}
-use Rattle.js_run.specs.Operators.{number, operated, numbers}
-use Rattle.js_run.specs.Stored.{read, give}
-use Rattle.js_run.specs.Expressions.{name, digits, calls, binary}
-use Rattle.js_run.specs.Trees.{expr, head, selector, primary}
-use Rattle.js_run.specs.Statements.{here, statements, statement_at, statement, let_value, performed, return_value}
-use Rattle.js_run.specs.Calls.{inside, string_of, called}
-use Rattle.js_run.proofs.Layers.{primary_layer, binary_layer, name_layer, digits_layer, str_layer, null_layer, string_of_layer, method_layer, parts_layer}
+use Rattle.js_meaning.specs.declared.state.Realm.{Realm}
+use Rattle.js_meaning.specs.declared.state.Spot.{Spot}
+use Rattle.js_meaning.specs.declared.state.Here.{Here}
+use Rattle.js_meaning.specs.declared.state.Around.{Around}
+use Rattle.js_meaning.specs.declared.state.Leave.TheVariants.{Return}
+use Rattle.js_meaning.specs.declared.state.Callee.{Callee}
+use Rattle.js_meaning.specs.declared.state.Callee.TheVariants.{StringOf, Method}
+use Rattle.js_meaning.specs.Machine.{Ending}
+use Rattle.js_meaning.specs.Prog.{Prog, ◌>>=◌, ◌>>◌, pure, left, or_stuck, leave, perform, call}
+use Rattle.js_meaning.specs.Parts.{Expr, values, values_from, selected}
+use Rattle.js_meaning.specs.Operators.{number, operated, numbers}
+use Rattle.js_meaning.specs.Stored.{read, give}
+use Rattle.js_meaning.specs.Expressions.{name, digits, calls, binary}
+use Rattle.js_meaning.specs.Trees.{expr, head, selector, primary}
+use Rattle.js_meaning.specs.Statements.{here, statements, statement_at, statement, let_value, performed, return_value}
+use Rattle.js_meaning.specs.Calls.{inside, string_of, called}
+use Rattle.js_meaning.proofs.Layers.{primary_layer, binary_layer, name_layer, digits_layer, str_layer, null_layer, string_of_layer, method_layer, parts_layer}
 use Rattle.dart_web_cli.specs.Translation.{operation_name, variable_name, alone, host_print, string_of as string_tree}
 use Rattle.dart_web_cli.proofs.Leading.{Leads, Comes, Ends, cut, left_by, same_acts, stays, same_part, leads_on, leads_over, then_leads, then_over, over_before, looks, changes, halts, leaves, performs, performs_over, performs_left, calls as calls_lead}
 use Rattle.dart_web_cli.proofs.Names.{bound, bound_other, numbers_differ, letters_differ, letters_differ', no_host, no_host'}

@@ -5,17 +5,17 @@ use Rattle.meanings.proofs.Acts.{means_sub, means_bind}
 use Rattle.meanings.proofs.Conclusions.{said}
 use Rattle.js_tree.specs.declared.tree.JsStmt.{JsStmt}
 use Rattle.js_store.specs.declared.value.Value.{Value}
-use Rattle.js_run.specs.declared.state.Realm.{Realm}
-use Rattle.js_run.specs.declared.state.Spot.{Spot}
-use Rattle.js_run.specs.declared.state.Around.{Around}
-use Rattle.js_run.specs.declared.state.Callee.{Callee}
-use Rattle.js_run.specs.declared.state.Leave.{Leave as Leaving}
-use Rattle.js_run.specs.Machine.{Comp, Normal, Gives, Leaves, Node, Statement, Call, Texts, Ending, A, with_value, with_normal, caught}
-use Rattle.js_run.specs.Steps.{Acts}
-use Rattle.js_run.specs.Prog.{Prog, ◌>>=◌, pure, halt, leave, look, change, attempt, perform, call}
-use Rattle.js_run.specs.Statements.{statement}
-use Rattle.js_run.specs.Calls.{called, prints}
-use Rattle.js_run.specs.Meaning.{Js, view}
+use Rattle.js_meaning.specs.declared.state.Realm.{Realm}
+use Rattle.js_meaning.specs.declared.state.Spot.{Spot}
+use Rattle.js_meaning.specs.declared.state.Around.{Around}
+use Rattle.js_meaning.specs.declared.state.Callee.{Callee}
+use Rattle.js_meaning.specs.declared.state.Leave.{Leave as Leaving}
+use Rattle.js_meaning.specs.Machine.{Comp, Normal, Gives, Leaves, Node, Statement, Call, Texts, Ending, A, with_value, with_normal, caught}
+use Rattle.js_meaning.specs.Steps.{Acts}
+use Rattle.js_meaning.specs.Prog.{Prog, ◌>>=◌, pure, halt, leave, look, change, attempt, perform, call}
+use Rattle.js_meaning.specs.Statements.{statement}
+use Rattle.js_meaning.specs.Calls.{called, prints}
+use Rattle.js_meaning.specs.Meaning.{Js, view}
 
 -- Given some steps more, a part at one state comes to what another part at a later state comes to, behind these texts.
 pub record Leads {T : Type 0} (p : Prog T) (c : Realm) (q : Prog T) (d : Realm) (texts : Texts) : Type 0 where

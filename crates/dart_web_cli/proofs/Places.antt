@@ -17,7 +17,7 @@ use Rattle.js_tree.specs.declared.words.JsOperator.{JsOperator}
 use Rattle.js_tree.specs.Places.{expr_of, head_of, selector_of, stmt_of, entry_of, function_of, primary_of, expr_without_places, head_without_places, selector_without_places, primary_without_places, stmt_without_places}
 use Rattle.js_tree.proofs.Unplaced.{expr_bared, head_bared, selector_bared, stmt_bared, head_bare_is, primary_same, binary_same, string_of_same, call_same, method_same, let_same, perform_same, return_same, same_primary}
 use Rattle.js_store.specs.Scopes.{Scope}
-use Rattle.js_run.specs.Statements.{with_let}
+use Rattle.js_meaning.specs.Statements.{with_let}
 use Rattle.dart_web_cli.specs.Translation.{alone}
 
 -- it has no places, and no other tree differs from it in places alone

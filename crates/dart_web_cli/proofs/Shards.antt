@@ -13,7 +13,7 @@ use Rattle.js_tree.specs.declared.tree.JsFile.{JsFile}
 use Rattle.js_tree.specs.declared.tree.NamedTree.{NamedTree}
 use Rattle.js_reader.specs.declared.fault.JsFault.TheVariants.{NotInProfile as NoFile}
 use Rattle.js_reader.specs.Faults.{IsFaultOf}
-use Rattle.js_run.specs.Laws.{IsNoName, HaveOwnNames}
+use Rattle.js_meaning.specs.Laws.{IsNoName, HaveOwnNames}
 use Rattle.dart_web_cli.specs.declared.scripts.Script.{Script}
 use Rattle.dart_web_cli.specs.declared.scripts.Script.TheVariants as a
 use Rattle.dart_web_cli.specs.declared.scripts.ScriptFault.{ScriptFault}

@@ -38,27 +38,27 @@ use Rattle.js_store.specs.declared.store.Store.{Store}
 use Rattle.js_store.specs.declared.host.Host.{Host as HostState}
 use Rattle.js_store.specs.declared.value.Value.{Value}
 use Rattle.js_store.specs.declared.value.Value.TheVariants.{Undefined, Null, Function, Host}
-use Rattle.js_run.specs.declared.state.Realm.{Realm}
-use Rattle.js_run.specs.declared.state.Spot.{Spot}
-use Rattle.js_run.specs.declared.state.Around.{Around}
-use Rattle.js_run.specs.declared.state.Here.{Here}
-use Rattle.js_run.specs.declared.state.Leave.{Leave as Leaving}
-use Rattle.js_run.specs.declared.state.Leave.TheVariants.{Return}
-use Rattle.js_run.specs.declared.state.Callee.TheVariants.{Applied}
-use Rattle.js_run.specs.Machine.{Normal, caught}
-use Rattle.js_run.specs.Steps.{Acts}
-use Rattle.js_run.specs.Prog.{Prog, ◌>>=◌, ◌>>◌, pure, or_stuck, attempt, perform, call}
-use Rattle.js_run.specs.Parts.{values, values_from, selected}
-use Rattle.js_run.specs.Stored.{read, enter, closure, function_value, is_declared, declare, starts, completes}
-use Rattle.js_run.specs.Expressions.{name, calls}
-use Rattle.js_run.specs.Trees.{expr, head, selector, primary}
-use Rattle.js_run.specs.Statements.{with_lets, statements, statement_at, statement, performed, here}
-use Rattle.js_run.specs.Calls.{entered, applied, called}
-use Rattle.js_run.specs.Files as files
-use Rattle.js_run.specs.Files.{at_top, let_name, is_new, are_new, opens_function, absent, opened, runs, event, events, whole, all, begins}
-use Rattle.js_run.specs.Meaning.{Js, concluded, acts_of, js}
-use Rattle.js_run.proofs.Layers.{name_layer, call_layer, parts_layer}
-use Rattle.js_run.proofs.Runs.{runs_are_of_a_meaning}
+use Rattle.js_meaning.specs.declared.state.Realm.{Realm}
+use Rattle.js_meaning.specs.declared.state.Spot.{Spot}
+use Rattle.js_meaning.specs.declared.state.Around.{Around}
+use Rattle.js_meaning.specs.declared.state.Here.{Here}
+use Rattle.js_meaning.specs.declared.state.Leave.{Leave as Leaving}
+use Rattle.js_meaning.specs.declared.state.Leave.TheVariants.{Return}
+use Rattle.js_meaning.specs.declared.state.Callee.TheVariants.{Applied}
+use Rattle.js_meaning.specs.Machine.{Normal, caught}
+use Rattle.js_meaning.specs.Steps.{Acts}
+use Rattle.js_meaning.specs.Prog.{Prog, ◌>>=◌, ◌>>◌, pure, or_stuck, attempt, perform, call}
+use Rattle.js_meaning.specs.Parts.{values, values_from, selected}
+use Rattle.js_meaning.specs.Stored.{read, enter, closure, function_value, is_declared, declare, starts, completes}
+use Rattle.js_meaning.specs.Expressions.{name, calls}
+use Rattle.js_meaning.specs.Trees.{expr, head, selector, primary}
+use Rattle.js_meaning.specs.Statements.{with_lets, statements, statement_at, statement, performed, here}
+use Rattle.js_meaning.specs.Calls.{entered, applied, called}
+use Rattle.js_meaning.specs.Files as files
+use Rattle.js_meaning.specs.Files.{at_top, let_name, is_new, are_new, opens_function, absent, opened, runs, event, events, whole, all, begins}
+use Rattle.js_meaning.specs.Meaning.{Js, concluded, acts_of, js}
+use Rattle.js_meaning.proofs.Layers.{name_layer, call_layer, parts_layer}
+use Rattle.js_meaning.proofs.Runs.{runs_are_of_a_meaning}
 use Rattle.dart_web_cli.specs.Translation.{statements_from, file_of, served}
 use Rattle.dart_web_cli.proofs.Leading.{Leads, Comes, Ends, How, cut, left_by, same_acts, stays, same_part, leads_on, leads_over, then_leads, then_over, then_gives, over_before, looks, changes, performs, performs_over, calls as calls_lead, calls_over, attempts, catches, attempts_over}
 use Rattle.dart_web_cli.proofs.Places as places

@@ -9,7 +9,7 @@ use Rattle.dart_web_cli.specs.declared.top.Status.TheVariants.{Ok as Fine, Refus
 use Rattle.dart_syntax.specs.declared.rules.Rule.TheVariants.{U1}
 use Rattle.code_units.specs.declared.ends.RunEnd.{RunEnd}
 use Rattle.js_tree.specs.declared.tree.NamedTree.{NamedTree}
-use Rattle.js_run.specs.Meaning.{js_to}
+use Rattle.js_meaning.specs.Meaning.{js_to}
 use Rattle.dart_web_cli.specs.Translation.{translation, RunsAs}
 use Rattle.dart_web_cli.specs.Words.{IsCompile, IsRunJs, IsNoCommand}
 use Rattle.dart_web_cli.specs.Refusals.{IsBroken, IsFine}

@@ -33,7 +33,7 @@ use Rattle.js_tree.specs.declared.words.JsOperator.{JsOperator}
 use Rattle.js_tree.specs.declared.words.JsOperator.TheVariants as o
 use Rattle.js_tree.specs.Spelling.{IsSpelled}
 use Rattle.js_tree.specs.Text.{file_text}
-use Rattle.js_run.specs.Meaning.{js}
+use Rattle.js_meaning.specs.Meaning.{js}
 
 -- ---- names
 

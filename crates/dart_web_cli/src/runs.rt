@@ -1,14 +1,14 @@
 //! What is said of a run.
 ghost use Rattle.std.specs.Prelude.{◌≡◌, ◌<◌, length, map};
 ghost use Rattle.code_units.specs.Text.{utf8_of};
-ghost use Rattle.js_run.specs.Laws.{HaveOwnNames};
+ghost use Rattle.js_meaning.specs.Laws.{HaveOwnNames};
 ghost use Rattle.dart_web_cli.specs.RunLines.{line, printed, end_line, run_text, end_status};
 ghost use Rattle.dart_web_cli.specs.RunAnswers.{Saying, IsToldOf, IsToldOfRun};
 
 use crate::lines::{end_line, text_line};
 use crate::top::Status;
 use code_units::{End, RunEnd, Text};
-use js_run::run_js;
+use js_meaning::run_js;
 use js_tree::{NamedTree, TreeList};
 use outside::Sink;
 use std::alloc::{AllocError, Global};

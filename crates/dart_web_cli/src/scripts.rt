@@ -1,6 +1,6 @@
 //! The scripts that `runjs` reads.
 ghost use Rattle.std.specs.Prelude.{◌≡◌, ◌<◌, ◌≤◌, ◌++◌, [], ◌∷◌, length, IfOk, IfErr, MatchResult, string_bytes};
-ghost use Rattle.js_run.specs.Laws.{HaveOwnNames};
+ghost use Rattle.js_meaning.specs.Laws.{HaveOwnNames};
 ghost use Rattle.dart_web_cli.specs.Scripts.{shard_name, named};
 ghost use Rattle.dart_web_cli.specs.ScriptAnswers.{JudgesScript, ReadsScript, ScriptCause, ReadsMain, ReadsShard, ReadsShards, FaultCause, ReadsScripts};
 ghost use Rattle.dart_web_cli.specs.ScriptLaws.{OneRun, OneOutside, RunOrOutside};

@@ -1,10 +1,10 @@
 //! Several files, loads, and steps that are nested.
 ghost use Rattle.std.specs.Prelude.{◌<◌, length, IfOk};
-ghost use Rattle.js_run.specs.Laws.{HaveOwnNames};
+ghost use Rattle.js_meaning.specs.Laws.{HaveOwnNames};
 
 use crate::runs::{alone, assert_lines, ends, one_file, three};
 use code_units::{End, RunEnd, Shown};
-use js_run::{run_js, run_to};
+use js_meaning::{run_js, run_to};
 use js_tree::TreeList;
 use std::alloc::Global;
 use std::process::Abort;

@@ -1,10 +1,10 @@
 //! Runs of texts as files.
 ghost use Rattle.std.specs.Prelude.{◌<◌, length, IfOk, IfSome};
-ghost use Rattle.js_run.specs.Laws.{HaveOwnNames};
+ghost use Rattle.js_meaning.specs.Laws.{HaveOwnNames};
 
 use code_units::{End, RunEnd, Text};
+use js_meaning::{run_js, run_to};
 use js_reader::read_file;
-use js_run::{run_js, run_to};
 use js_tree::{NamedTree, TreeList};
 use sqlite_items::Items;
 use std::alloc::{AllocError, Global};

@@ -21,7 +21,7 @@ fn letter(site: &Site<'_>) -> u8
         Site::Local(_) => b'v',
         Site::ParameterList(_, _) => b'p',
         Site::FieldParameter(_, _) => b't',
-        Site::Literal(_) => b'l',
+        Site::Literal(_, _) => b'l',
         Site::Break(_) => b'b',
         Site::Rethrow(_) => b'r',
         Site::ForIn(_) => b'i',

@@ -1,7 +1,7 @@
 use Rattle.std.proofs.Common.{◌≡◌, ℕ, ◌+◌, ◌<◌, ◌^◌, List, ◌∷◌, [], ◌++◌, length, Option, Result, Ok, Err, sym, ◌∙◌, ap, subst, arith}
 use Rattle.outside.specs.Outside.{Held}
 use Rattle.js_tree.specs.declared.tree.NamedTree.{NamedTree}
-use Rattle.js_run.specs.Laws.{HaveOwnNames}
+use Rattle.js_meaning.specs.Laws.{HaveOwnNames}
 use Rattle.dart_web_cli.specs.declared.scripts.ScriptFault.{ScriptFault}
 use Rattle.dart_web_cli.specs.Scripts.{named}
 use Rattle.dart_web_cli.specs.ScriptAnswers.{ReadsShards, ReadsScripts}

@@ -1,0 +1,7 @@
+use Rattle.std.proofs.Common.{◌≡◌, drop}
+use Rattle.js_meaning.specs.Files as spec
+use Rattle.js_meaning.specs.Nests.{at}
+use Rattle.js_meaning.proofs.run.opened.Given as goal
+
+abbrev pub invariant-loop-item : goal.invariant-loop-item
+invariant-loop-item l = at (spec.opened l.file l.items) l.level.depth l.fn.state ≡ at (spec.opened l.file (drop l.item-index l.items)) l.level.depth l.state

@@ -1,8 +1,0 @@
-use Rattle.std.proofs.Common.{◌≡◌, map, drop}
-use Rattle.js_run.specs.Parts.{selected}
-use Rattle.js_run.specs.Trees.{selector}
-use Rattle.js_run.specs.Nests.{at}
-use Rattle.js_run.proofs.forms.Forms.selected.Given as goal
-
-abbrev pub invariant-loop-selector : goal.invariant-loop-selector
-invariant-loop-selector g l = at (selected l.here l.fn.from (map selector l.selectors)) l.self.level.depth l.fn.state ≡ at (selected l.here l.v (map selector (drop l.selector-index l.selectors))) l.self.level.depth l.state

@@ -1,7 +1,0 @@
-use Rattle.std.proofs.Common.{◌≡◌, drop}
-use Rattle.js_run.specs.Files as spec
-use Rattle.js_run.specs.Nests.{at}
-use Rattle.js_run.proofs.run.performed.Given as goal
-
-abbrev pub invariant-loop-item : goal.invariant-loop-item
-invariant-loop-item l = at (spec.performed l.file l.items) l.level.depth l.fn.state ≡ at (spec.performed l.file (drop l.item-index l.items)) l.level.depth l.state
