@@ -1,4 +1,5 @@
 mod Examples
+pub mod Firsts
 pub mod Linked
 pub mod Names
 pub mod Search

@@ -5,3 +5,4 @@ pub mod Paths
 pub mod Folders
 pub mod Loading
 pub mod First
+pub mod Sooner

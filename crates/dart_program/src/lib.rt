@@ -2,10 +2,12 @@
 //!
 //! - [`files`]: the files of a program.
 //! - [`paths`]: the file that an import names.
+//! - [`first`]: the first of some refusals.
 //! - [`laws`]: what holds of programs that are loaded.
 #![tactic(auto)]
 
 pub mod files;
+pub mod first;
 pub mod laws;
 pub mod paths;
 #[cfg(test)]
