@@ -1,0 +1,6 @@
+pub mod Nodes
+pub mod Lookup
+pub mod Maps
+pub mod Gives
+pub mod Keeps
+pub mod Growth

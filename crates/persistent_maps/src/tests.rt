@@ -1,0 +1,35 @@
+use crate::{Map, Maps};
+use std::test::Fail;
+
+#[test]
+fn old_maps_stay(rt: HostRuntime) -> Result<(), Fail> {
+    let mut maps = Maps::new(rt.alloc(), 3);
+    let first = maps.with(Map::empty(), 5, 50)?;
+    let second = maps.with(first, 1, 10)?;
+    let third = maps.with(second, 5, 51)?;
+    for (map, at_one, at_five) in [
+        (Map::empty(), None, None),
+        (first, None, Some(50)),
+        (second, Some(10), Some(50)),
+        (third, Some(10), Some(51)),
+    ] {
+        assert_eq!(rt; maps.get(map, 1), at_one);
+        assert_eq!(rt; maps.get(map, 5), at_five);
+        assert_eq!(rt; maps.get(map, 4), None);
+        assert_eq!(rt; maps.get(map, 13), None, "not of three bits");
+    }
+    Ok(())
+}
+
+#[test]
+fn all_keys_below_a_count_are_keys(rt: HostRuntime) -> Result<(), Fail> {
+    let mut maps = Maps::for_keys(rt.alloc(), 1000);
+    let mut map = Map::empty();
+    for key in 0..1000 {
+        map = maps.with(map, key, key + 1)?;
+    }
+    for key in 0..1000 {
+        assert_eq!(rt; maps.get(map, key), Some(key + 1));
+    }
+    Ok(())
+}
