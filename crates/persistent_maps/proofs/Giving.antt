@@ -1,5 +1,5 @@
 -- What stands on the words that contracts cite: what maps give, and what stays when others are made.
-use Rattle.std.proofs.Common.{◌≡◌, ◌≢◌, ℕ, ◌+◌, ◌^◌, ◌<◌, ◌≤◌, ◌==◌, Bool, true, false, cond, List, [], ◌∷◌, ◌++◌, length, get_or, slice_get, Option, Some, None, refl, sym, ap, ◌∙◌, subst, inl, inr, arith}
+use Rattle.std.proofs.Common.{◌≡◌, ◌≢◌, ℕ, ◌+◌, ◌^◌, ◌<◌, ◌≤◌, ◌==◌, cond, List, [], ◌∷◌, ◌++◌, length, get_or, slice_get, Option, Some, None, refl, sym, ap, ◌∙◌, subst, inl, inr, arith}
 use Rattle.std.proofs.lemmas.Bool.{cases_lt}
 use Rattle.std.proofs.lemmas.Bool.Decides.{eqb_tells}
 use Rattle.std.proofs.lemmas.List.{get_or_append_left, get_or_push, length_push}
@@ -7,7 +7,6 @@ use Rattle.std.proofs.lemmas.Option.{none-some, slice_get_within, slice_get-get_
 use Rattle.persistent_maps.specs.declared.nodes.Node.{Node}
 use Rattle.persistent_maps.specs.declared.maps.Map.{Map}
 use Rattle.persistent_maps.specs.declared.maps.Maps.{Maps}
-use Rattle.persistent_maps.specs.Lookup.{value_at, IsMapTo}
 use Rattle.persistent_maps.specs.Maps.{bits_of, value_of, IsMapOf}
 use Rattle.persistent_maps.specs.Gives.{Gives, GivesEach, put}
 use Rattle.persistent_maps.specs.Keeps.{Keeps}
@@ -97,8 +96,8 @@ each_pushed {maps = maps} {list = list} {map = map} {f = f} h last = record { ea
       elim (cases_lt i (length list)) [
         | inl lt ↦ h.each i x (slice_get-get_or list i x lt ∙ ap (λ y. Some y) (sym (get_or_append_left list (map ∷ []) x i lt) ∙ read))
         | inr le ↦
-          let at : length list ≡ i = omega (arith, le, within) in
-          subst (λ y. Gives maps y (f i)) (sym (get_or_push list map x i at) ∙ read) (subst (λ j. Gives maps map (f j)) at last)
+            let at : length list ≡ i = omega (arith, le, within) in
+            subst (λ y. Gives maps y (f i)) (sym (get_or_push list map x i at) ∙ read) (subst (λ j. Gives maps map (f j)) at last)
       ]
 
 -- in other words at those that are in the list

