@@ -32,7 +32,7 @@ impl Map {
 }
 
 impl Maps {
-    /// For maps from keys of so many bits. Takes no memory yet.
+    /// For maps from keys of so many bits; a key has no more than 32. Takes no memory yet.
     pub fn new(alloc: Global, bits: u32) -> Maps
         requires { bits ≤ 32 }
         ensures bits { bits_of result ≡ bits }
