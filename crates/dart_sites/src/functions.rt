@@ -28,7 +28,9 @@ use std::alloc::AllocError;
 fn count_of(parameters: &Parameters) -> usize
     ensures { result ≡ (parameters_in parameters.now).count }
 {
-    parameters.required.len() + parameters.optional.len()
+    let required = parameters.required.as_slice();
+    let optional = parameters.optional.as_slice();
+    required.len() + optional.len()
 }
 
 impl<
