@@ -1,5 +1,6 @@
-// What files declare in words, for tests. `from-to` are the bytes in which it stands; what expressions and statements are
-// is not shown.
+//! What files declare, in words. `from-to` are the bytes in which it stands; what expressions and statements are is not
+//! shown.
+
 use code_units::Text;
 use dart_grammar::declarations::{
     Alias, Class, Combinator, Constructor, Declaration, FileTree, Function, Getter, Import,
@@ -327,16 +328,22 @@ fn declaration(alloc: Global, item: &Declaration) -> Shown {
     }
 }
 
+// Behind what is declared before.
+fn append(text: &mut String, item: &str) -> Result<(), AllocError> {
+    if !text.is_empty() {
+        text.push_str("; ")?;
+    }
+    text.push_str(item)
+}
+
 /// The imports and the declarations of a file, with `; ` between.
 pub fn outline(alloc: Global, tree: &FileTree) -> Shown {
     let mut text = String::new(alloc);
     for item in tree.imports.as_slice() {
-        text.push_str(import(alloc, item)?.as_str())?;
-        text.push_str("; ")?;
+        append(&mut text, import(alloc, item)?.as_str())?;
     }
     for item in tree.declarations.as_slice() {
-        text.push_str(declaration(alloc, item)?.as_str())?;
-        text.push_str("; ")?;
+        append(&mut text, declaration(alloc, item)?.as_str())?;
     }
     Ok(text)
 }

@@ -1,7 +1,8 @@
-// Trees in words, fully bracketed, for tests.
-//
-// `<a>` is a parenthesised expression, `~` stands before a target, selectors stand in braces, `(fn ..)` is a function
-// literal. Where places are wanted, `from-to:` stands before expressions, selectors, statements, parameters and clauses.
+//! Trees in words, fully bracketed.
+//!
+//! `<a>` is a parenthesised expression, `~` stands before a target, selectors stand in braces, `(fn ..)` is a function
+//! literal. Where places are wanted, `from-to:` stands before expressions, selectors, statements, parameters and clauses.
+
 use code_units::Text;
 use dart_grammar::spans::{selector_span, span_of, stmt_span};
 use dart_grammar::trees::{
@@ -892,10 +893,9 @@ fn show(
     }
 }
 
-/// The tree in words; with places if they are wanted.
-pub fn shown(alloc: Global, is_placed: bool, expr: &Expr) -> Result<String, AllocError> {
+fn in_words(alloc: Global, is_placed: bool, piece: Piece<'_>) -> Result<String, AllocError> {
     let mut text = String::new(alloc);
-    let mut left = vec![in alloc; Piece::Expr(expr)]?;
+    let mut left = vec![in alloc; piece]?;
     for _turn in 0..10_000 {
         let Some(piece) = left.pop() else {
             return Ok(text);
@@ -904,4 +904,14 @@ pub fn shown(alloc: Global, is_placed: bool, expr: &Expr) -> Result<String, Allo
         pieces(&mut left, &piece)?;
     }
     Ok(text)
+}
+
+/// The tree in words; with places if they are wanted.
+pub fn shown(alloc: Global, is_placed: bool, expr: &Expr) -> Result<String, AllocError> {
+    in_words(alloc, is_placed, Piece::Expr(expr))
+}
+
+/// The statements in words.
+pub fn shown_statements(alloc: Global, items: &[Stmt]) -> Result<String, AllocError> {
+    in_words(alloc, false, Piece::Stmts(items))
 }

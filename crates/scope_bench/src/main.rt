@@ -11,7 +11,7 @@ use code_units::{Bytes, Files, NamedFile, Text};
 use dart_grammar::declarations::Declaration;
 use dart_program::Program;
 use library_scopes::{Scopes, resolve};
-use scope_rows::programs::program;
+use source_programs::program;
 use std::{env, fs};
 
 // The name that a declaration gives, where it gives one.

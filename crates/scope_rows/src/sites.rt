@@ -1,15 +1,16 @@
-// What stands in a file: each site once and in order, with what is around it.
+//! What stands in a file: each site once and in order, with what is around it.
+
 ghost use Rattle.std.specs.Prelude.{◌≡◌, ◌++◌, OnOk};
 ghost use Rattle.dart_sites.specs.Listing as spec;
 
-use crate::programs::tree_of;
+use anyhow::Result;
 use code_units::Bytes;
 use dart_sites::sites::Site;
 use dart_sites::surroundings::Surroundings;
 use dart_sites::visit_file;
 use dart_sites::visitor::Visitor;
+use source_programs::tree_of;
 use std::alloc::{AllocError, Global};
-use std::test::Fail;
 
 fn letter(site: &Site<'_>) -> u8
     ensures { result ≡ spec.letter site.now }
@@ -60,33 +61,13 @@ impl Visitor for Listing {
     }
 }
 
-/// The notes of what stands in a file.
-fn notes(alloc: Global, text: &str) -> Result<Bytes, Fail> {
+/// The notes of what stands in a file, each a letter for the site and a digit for what is around it: 1 for a loop, 2 for a
+/// clause of a `try`, 4 for a function.
+pub fn notes(alloc: Global, text: &str) -> Result<String> {
     let tree = tree_of(alloc, 1, text.as_bytes())?;
     let listing = Listing {
         notes: Bytes::new(alloc),
     };
     let seen = visit_file(alloc, &tree, listing)?;
-    Ok(seen.notes)
-}
-
-// A literal stands in no loop of its own, and a clause is around its body alone.
-#[test]
-fn loops_and_clauses_around_what_they_hold(rt: HostRuntime) -> Result<(), Fail> {
-    let seen = notes(
-        rt.alloc(),
-        "f(a) { for (var i = a;;) { () { break; i; }; break; } try {} catch (e) { rethrow; } }",
-    )?;
-    assert_eq!(rt; seen.as_slice(), b"f0p0v0v0n0l1p4b4n4b1v2r2".as_slice());
-    Ok(())
-}
-
-#[test]
-fn a_constructor_from_its_parameters_on(rt: HostRuntime) -> Result<(), Fail> {
-    let seen = notes(
-        rt.alloc(),
-        "class C { C(this.a) : b = a { () { break; i; }; } }",
-    )?;
-    assert_eq!(rt; seen.as_slice(), b"C0c0p0t0=0n0l0p4b4n4".as_slice());
-    Ok(())
+    Ok(String::from_utf8_lossy(alloc, seen.notes.as_slice())?)
 }

@@ -6,7 +6,7 @@ use Rattle.std.proofs.lemmas.Bool.{ltb-true, eqb-true}
 use Rattle.std.proofs.lemmas.List.Elements.{All-from_recursion}
 use Rattle.dart_program.specs.declared.files.SourceFile.{SourceFile}
 use Rattle.dart_program.specs.Programs.{IsLinked, IsProgram}
-use Rattle.scope_rows.specs.Linked.{are_below, is_linked, are_linked, is_program}
+use Rattle.source_programs.specs.Linked.{are_below, is_linked, are_linked, is_program}
 
 both : (a b : Bool) → (a && b) ≡ true → (a ≡ true) × (b ≡ true)
 both true b e = (refl, e)

@@ -1,6 +1,6 @@
 //! The program of some files.
 ghost use Rattle.std.specs.Prelude.{◌≡◌};
-ghost use Rattle.scope_rows.specs.Linked as spec;
+ghost use Rattle.source_programs.specs.Linked as spec;
 
 use code_units::{Files, NamedFile, NumberList, Text};
 use core_prelude::prelude;
@@ -29,7 +29,7 @@ pub enum NoProgram {
 
 impl From<AllocError> for NoProgram {
     ghost use Rattle.std.specs.Prelude.{◌≡◌};
-    ghost use Rattle.scope_rows.specs.declared.programs.NoProgram.TheVariants.{Memory};
+    ghost use Rattle.source_programs.specs.declared.programs.NoProgram.TheVariants.{Memory};
 
     ghost from_gives = { λ _ error. error ≡ Memory };
 
