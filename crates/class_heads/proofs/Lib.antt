@@ -1,0 +1,5 @@
+mod Searches
+mod Falling
+pub mod Supers
+pub mod FaultParts
+pub mod Breaks

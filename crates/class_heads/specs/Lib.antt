@@ -1,0 +1,12 @@
+pub mod Written
+pub mod Heads
+pub mod Classes
+pub mod Supertypes
+pub mod Search
+pub mod Ranks
+pub mod Sources
+pub mod Origins
+pub mod Bodies
+pub mod Rules
+pub mod Faults
+pub mod First

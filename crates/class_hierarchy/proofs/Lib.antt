@@ -1,2 +1,0 @@
-mod Searches
-mod Falling

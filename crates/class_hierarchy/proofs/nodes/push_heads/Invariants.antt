@@ -1,6 +1,0 @@
-use Rattle.std.proofs.Common.{◌≡◌, drop}
-use Rattle.class_hierarchy.specs.Classes.{with_heads}
-use Rattle.class_hierarchy.proofs.nodes.push_heads.Given as goal
-
-abbrev pub invariant-loop-class : goal.invariant-loop-class
-invariant-loop-class l = with_heads l.naming l.classes (drop l.class-index l.written) ≡ with_heads l.naming l.fn.classes l.written

@@ -1,6 +1,0 @@
-use Rattle.std.proofs.Common.{◌≡◌, true, drop}
-use Rattle.class_hierarchy.specs.Ranks.{falls_from}
-use Rattle.class_hierarchy.proofs.ranks.fall.Given as goal
-
-abbrev pub invariant-loop-class : goal.invariant-loop-class
-invariant-loop-class l = falls_from l.ranks l.number (drop l.class-index l.classes) ≡ falls_from l.ranks 0 l.classes

@@ -1,6 +1,0 @@
-use Rattle.std.proofs.Common.{◌≡◌, ◌++◌, drop}
-use Rattle.class_hierarchy.specs.Written.{numbers_from}
-use Rattle.class_hierarchy.proofs.written.numbers.Given as goal
-
-abbrev pub invariant-loop-class : goal.invariant-loop-class
-invariant-loop-class l = l.numbers ++ numbers_from l.next (drop l.class-index l.written) ≡ numbers_from 0 l.written

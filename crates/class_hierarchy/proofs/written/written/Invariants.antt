@@ -1,6 +1,0 @@
-use Rattle.std.proofs.Common.{◌≡◌, [], drop}
-use Rattle.class_hierarchy.specs.Written.{with_files}
-use Rattle.class_hierarchy.proofs.written.written.Given as goal
-
-abbrev pub invariant-loop-file : goal.invariant-loop-file
-invariant-loop-file l = with_files l.number l.written (drop l.file-index l.files) ≡ with_files 0 [] l.files
