@@ -28,7 +28,7 @@ pub fn items<'a>(store: &Store<'a>, args: &Arguments<'a, '_>) -> Result<String> 
         if at > 0 {
             all.push_str(", ")?;
         }
-        match store.read_item(list, at as i64) {
+        match store.read_item(list, i64::try_from(at)?) {
             Some(item) => all.push_str(shown(args.alloc, &item)?.as_str())?,
             None => all.push_str("none")?,
         }
