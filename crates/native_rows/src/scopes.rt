@@ -49,23 +49,15 @@ pub fn keys_of_each_kind(alloc: Global) -> Result<String, AllocError> {
 
 // ---- names
 
-fn x() -> Name<'static> {
-    Name::new(b"x$")
-}
-
 fn one_name<'a>(alloc: Global, bound: Option<Value<'a>>) -> Result<Scope<'a>, AllocError> {
     let mut scope = Pairs::new(alloc);
     scope.put(Name::new(b"x$"), bound)?;
     Ok(scope)
 }
 
-fn seen<'a>(
-    alloc: Global,
-    store: &Store<'a>,
-    env: &Env<'a>,
-    name: &Name<'a>,
-) -> Result<String, AllocError> {
-    match store.look_up(env, name) {
+// What the name `x$` has.
+fn seen(alloc: Global, store: &Store, env: &Env) -> Result<String, AllocError> {
+    match store.look_up(env, &Name::new(b"x$")) {
         Some(value) => shown(alloc, &value),
         None => format!(in alloc; "none"),
     }
@@ -76,15 +68,16 @@ pub fn a_let_that_has_not_run(alloc: Global) -> Result<String, AllocError> {
     let arena = Bump::new(alloc);
     let mut store = Store::new(alloc);
     let mut answers = String::new(alloc);
-    store.declare(x(), Some(Value::Number(1)))?;
+    store.declare(Name::new(b"x$"), Some(Value::Number(1)))?;
     let top = Env::top();
-    let inner = store.enter(&arena, &top, one_name(alloc, None)?)?;
-    writeln!(answers, "before: {}", seen(alloc, &store, &inner, &x())?)?;
-    let done = store.assign(&inner, &x(), Value::Number(2))?;
+    let scope = one_name(alloc, None)?;
+    let inner = store.enter(&arena, &top, scope)?;
+    writeln!(answers, "before: {}", seen(alloc, &store, &inner)?)?;
+    let done = store.assign(&inner, &Name::new(b"x$"), Value::Number(2))?;
     writeln!(answers, "assigned: {done}")?;
-    store.initialise(&inner, &x(), Value::Number(3))?;
-    writeln!(answers, "inside: {}", seen(alloc, &store, &inner, &x())?)?;
-    writeln!(answers, "outside: {}", seen(alloc, &store, &top, &x())?)?;
+    store.initialise(&inner, &Name::new(b"x$"), Value::Number(3))?;
+    writeln!(answers, "inside: {}", seen(alloc, &store, &inner)?)?;
+    writeln!(answers, "outside: {}", seen(alloc, &store, &top)?)?;
     Ok(answers)
 }
 
@@ -94,13 +87,15 @@ pub fn an_outer_name_is_assigned(alloc: Global) -> Result<String, AllocError> {
     let scope = one_name(alloc, Some(Value::Number(1)))?;
     let outer = store.enter(&arena, &Env::top(), scope)?;
     let inner = store.enter(&arena, &outer, Pairs::new(alloc))?;
-    let done = store.assign(&inner, &x(), Value::Number(2))?;
-    let value = seen(alloc, &store, &outer, &x())?;
+    let done = store.assign(&inner, &Name::new(b"x$"), Value::Number(2))?;
+    let value = seen(alloc, &store, &outer)?;
     format!(in alloc; "assigned: {done}\noutside: {value}\n")
 }
 
 pub fn the_name_of_the_host(alloc: Global) -> Result<String, AllocError> {
     let store = Store::new(alloc);
-    let value = seen(alloc, &store, &Env::top(), &Name::new(b"host$"))?;
-    format!(in alloc; "{value}\n")
+    match store.look_up(&Env::top(), &Name::new(b"host$")) {
+        Some(value) => format!(in alloc; "{}\n", shown(alloc, &value)?),
+        None => format!(in alloc; "none\n"),
+    }
 }
