@@ -6,6 +6,7 @@
 //!
 //! - `rules`: each line is the entry `a.dart` of a program with the other files. Asked is for the first rule of libraries that
 //!   it breaks; the answer has the file, with `^` at the place. [`refusals`] finds it.
+//! - `classes`: the same of the first rule of classes.
 //! - `names`: the first line is the entry. Each line behind it is a look-up, which [`names`] answers.
 //! - `sites`: each line is a file. Asked is what stands in it, as [`sites`] notes it.
 //!
@@ -29,6 +30,18 @@ fn answer_rules(rt: &impl Print, alloc: Global, body: &str) -> Result<()> {
         if !is_other(line) {
             let files = row_files(alloc, line, body)?;
             rt.println(format_args!("    {}", refusals::refused(alloc, &files)?))?;
+        }
+    }
+    Ok(())
+}
+
+// The same of rules of classes.
+fn answer_classes(rt: &impl Print, alloc: Global, body: &str) -> Result<()> {
+    for line in body.split('\n') {
+        rt.println(line)?;
+        if !is_other(line) {
+            let files = row_files(alloc, line, body)?;
+            rt.println(format_args!("    {}", refusals::refused_of_classes(alloc, &files)?))?;
         }
     }
     Ok(())
@@ -63,6 +76,7 @@ fn answer_section(rt: &impl Print, alloc: Global, section: &str) -> Result<()> {
     rt.println(format_args!("--- {heading}"))?;
     match heading.split_once(": ").context("a section has no name")?.0 {
         "rules" => answer_rules(rt, alloc, body),
+        "classes" => answer_classes(rt, alloc, body),
         "names" => answer_names(rt, alloc, body),
         "sites" => answer_sites(rt, alloc, body),
         question => bail!("no question {question}"),

@@ -1,12 +1,16 @@
-//! The rule that a program breaks.
+//! The rules that programs break.
 
 use crate::row_files::resolved;
 use anyhow::{Context, Result};
+use class_heads::broken::first_broken;
 use code_units::{Files, NamedFile};
 use dart_program::Refusal;
-use library_scopes::ScopeError;
+use library_scopes::{ScopeError, resolve};
+use source_programs::program;
 use std::alloc::Global;
 use std::str::from_utf8;
+
+const NONE_BROKEN: &str = "no rule is broken";
 
 // The files are numbered from 1 on, behind the prelude.
 fn file_of<'f>(files: &'f Files, number: u32) -> Option<&'f NamedFile> {
@@ -29,8 +33,18 @@ fn marked(alloc: Global, files: &Files, refusal: Refusal) -> Result<String> {
 /// The first rule of libraries that the program of these files breaks, and where.
 pub fn refused(alloc: Global, files: &Files) -> Result<String> {
     match resolved(alloc, files)? {
-        Ok(_) => Ok(String::from_str(alloc, "no rule is broken")?),
+        Ok(_) => Ok(String::from_str(alloc, NONE_BROKEN)?),
         Err(ScopeError::Broken(refusal)) => marked(alloc, files, refusal),
         Err(error) => Err(error.into()),
+    }
+}
+
+/// The first rule of classes that it breaks, and where; it breaks none of libraries.
+pub fn refused_of_classes(alloc: Global, files: &Files) -> Result<String> {
+    let program = program(alloc, files)?;
+    let scopes = resolve(alloc, &program)?;
+    match first_broken(alloc, program.files().as_slice(), &scopes)? {
+        Some(refusal) => marked(alloc, files, refusal),
+        None => Ok(String::from_str(alloc, NONE_BROKEN)?),
     }
 }
