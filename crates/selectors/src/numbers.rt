@@ -1,0 +1,61 @@
+//! Names with their numbers, found by hashing.
+ghost use Rattle.std.specs.Prelude.{◌≡◌, ◌++◌, ◌∷◌, [], None, is_some, OnOk};
+ghost use Rattle.selectors.specs.Tables.{numbered};
+
+use indexmap::IndexMap;
+use std::alloc::{AllocError, Global};
+use std::marker::Model;
+
+/// Names with their numbers, in the order in which they were put in.
+#[derive(Drop)]
+pub struct Numbers {
+    entries: IndexMap<Vec<u16>, u32>,
+}
+
+impl Model for Numbers {
+    ghost use Rattle.std.specs.Prelude.{List, ℕ, map};
+
+    ghost Value = { List (List ℕ × ℕ) };
+
+    ghost view = { λ numbers. map (λ e. (e.0.items, e.1)) numbers.entries.entries };
+}
+
+impl Numbers {
+    /// No name.
+    pub fn new(alloc: Global) -> Numbers
+        ensures { result ≡ [] }
+    {
+        Numbers {
+            entries: IndexMap::new(alloc),
+        }
+    }
+
+    /// Where they take their memory from.
+    pub fn allocator(&self) -> Global {
+        *self.entries.allocator()
+    }
+
+    /// The number of a name.
+    pub fn find(&self, name: &[u16]) -> Option<u32>
+        ensures { result ≡ numbered name.now self.now }
+    {
+        self.entries.get(name).copied()
+    }
+
+    /// Whether a name is there.
+    pub fn has(&self, name: &[u16]) -> bool
+        ensures { result ≡ is_some (numbered name.now self.now) }
+    {
+        self.find(name).is_some()
+    }
+
+    /// Puts in a name that isn't there.
+    pub fn put(&mut self, name: &[u16], number: u32) -> Result<(), AllocError>
+        requires { numbered name.now self.old ≡ None }
+        ensures { OnOk result (self.new ≡ self.old ++ (name.now, number) ∷ []) }
+    {
+        let name = Vec::from_slice(self.allocator(), name)?;
+        self.entries.insert(name, number)?;
+        Ok(())
+    }
+}
