@@ -1,0 +1,4 @@
+pub mod Constructed
+mod Forwarded
+mod Gathered
+mod Owned
