@@ -1,5 +1,6 @@
 -- What stands on the words that contracts cite: what maps give, and what stays when others are made.
 use Rattle.std.proofs.Common.{◌≡◌, ◌≢◌, ℕ, ◌+◌, ◌^◌, ◌<◌, ◌≤◌, ◌==◌, cond, List, [], ◌∷◌, ◌++◌, length, get_or, slice_get, Option, Some, None, refl, sym, ap, ◌∙◌, subst, inl, inr, arith}
+use Rattle.std.specs.Option.{option_or}
 use Rattle.std.proofs.lemmas.Bool.{cases_lt}
 use Rattle.std.proofs.lemmas.Bool.Decides.{eqb_tells}
 use Rattle.std.proofs.lemmas.List.{get_or_append_left, get_or_push, length_push}
@@ -10,7 +11,7 @@ use Rattle.persistent_maps.specs.declared.maps.Maps.{Maps}
 use Rattle.persistent_maps.specs.Maps.{bits_of, value_of, IsMapOf}
 use Rattle.persistent_maps.specs.Gives.{Gives, GivesEach, put}
 use Rattle.persistent_maps.specs.Keeps.{Keeps}
-use Rattle.persistent_maps.specs.Growth.{Extends, Puts}
+use Rattle.persistent_maps.specs.Growth.{Extends, Puts, Unites}
 use Rattle.persistent_maps.proofs.Growing.{none_is_map, none_has_none, too_many_bits, map_kept, value_kept}
 
 -- ---- what a call does, by its nodes
@@ -27,6 +28,10 @@ extended_keeps bits old new ext =
 pub puts_gives : (bits : ℕ) (old new : List Node) (map : Map) (key value made : ℕ) → Puts old new bits map.root key value made → Gives (record { bits = bits; nodes = new }) (record { root = Some made }) (put (value_of (record { bits = bits; nodes = old }) map) key value)
 unfolding value_of
 puts_gives bits old new map key value made h = record { is_map = record { reached = h.is_map }; values = h.values }
+
+pub unites_gives : (bits : ℕ) (old new : List Node) (left right : Map) (made : Option ℕ) → Unites old new bits left.root right.root made → Gives (record { bits = bits; nodes = new }) (record { root = made }) (λ key. option_or (value_of (record { bits = bits; nodes = old }) left key) (value_of (record { bits = bits; nodes = old }) right key))
+unfolding value_of
+unites_gives bits old new left right made h = record { is_map = record { reached = h.is_map }; values = h.values }
 
 pub empty_gives : (maps : Maps) → Gives maps (record { root = None }) (λ key. None)
 unfolding value_of
@@ -59,6 +64,10 @@ gives_one h k key = sym (h.values key) ∙ k.values key
 -- a value more, where it is known what there was
 pub gives_put : {old new : Maps} {map made : Map} {f : ℕ → Option ℕ} (key value : ℕ) → Gives old map f → Gives new made (put (value_of old map) key value) → Gives new made (put f key value)
 gives_put key value h puts = gives_same puts (λ k. ap (λ x. cond (k == key) (Some value) x) (h.values k))
+
+-- the values of two maps together, where it is known what each has
+pub gives_union : {old new : Maps} {left right made : Map} {f g : ℕ → Option ℕ} → Gives old left f → Gives old right g → Gives new made (λ key. option_or (value_of old left key) (value_of old right key)) → Gives new made (λ key. option_or (f key) (g key))
+gives_union {old = old} {right = right} {f = f} h k united = gives_same united (λ key. ap (λ o. option_or o (value_of old right key)) (h.values key) ∙ ap (option_or (f key)) (k.values key))
 
 -- ---- what stays
 

@@ -1,2 +1,3 @@
 mod Growing
+mod Uniting
 pub mod Giving

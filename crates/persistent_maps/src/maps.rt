@@ -1,5 +1,6 @@
 //! Maps that share nodes.
 ghost use Rattle.std.specs.Prelude.{◌≡◌, ℕ, ◌+◌, ◌≤◌, ◌<◌, ◌^◌, IfOk};
+ghost use Rattle.std.specs.Option.{option_or};
 ghost use Rattle.persistent_maps.specs.Gives.{Gives, put};
 ghost use Rattle.persistent_maps.specs.Keeps.{Keeps};
 ghost use Rattle.persistent_maps.specs.Maps.{bits_of, node_count, value_of, IsMapOf};
@@ -76,5 +77,18 @@ impl Maps {
     {
         let root = nodes::put(&mut self.nodes, self.bits, map.root, key, value)?;
         Ok(Map { root: Some(root) })
+    }
+
+    /// The map that has at each key what the left one has there, and where that has nothing what the right one has. Goes no
+    /// further down than both have nodes that differ, so it takes time and nodes in those of the smaller one, and makes no
+    /// node where the left one has all keys of the right one.
+    pub fn union(&mut self, left: Map, right: Map) -> Result<Map, AllocError>
+        requires left_is_map { IsMapOf self.old left }
+        requires right_is_map { IsMapOf self.old right }
+        ensures made { IfOk result (λ made. Gives self.new made (λ key. option_or (value_of self.old left key) (value_of self.old right key))) }
+        ensures keeps { Keeps self.old self.new }
+    {
+        let root = nodes::union(&mut self.nodes, self.bits, left.root, right.root)?;
+        Ok(Map { root })
     }
 }

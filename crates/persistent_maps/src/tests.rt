@@ -32,3 +32,18 @@ fn all_keys_below_a_count_are_keys(rt: HostRuntime) -> Result<(), Fail> {
     assert_eq!(rt; maps.get(first, 999), None);
     Ok(())
 }
+
+#[test]
+fn the_left_map_wins(rt: HostRuntime) -> Result<(), Fail> {
+    let mut maps = Maps::new(rt.alloc(), 3);
+    let one = maps.with(Map::empty(), 1, 10)?;
+    let left = maps.with(one, 5, 50)?;
+    let right = maps.with(one, 5, 51)?;
+    let right = maps.with(right, 6, 60)?;
+    let both = maps.union(left, right)?;
+    assert_eq!(rt; maps.get(both, 1), Some(10));
+    assert_eq!(rt; maps.get(both, 5), Some(50));
+    assert_eq!(rt; maps.get(both, 6), Some(60));
+    assert_eq!(rt; maps.get(both, 2), None);
+    Ok(())
+}

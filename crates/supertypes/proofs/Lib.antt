@@ -1,0 +1,4 @@
+mod Climbing
+mod Joining
+mod Rising
+pub mod Laws

@@ -1,0 +1,4 @@
+pub mod Upward
+pub mod Sets
+pub mod Climb
+pub mod Joined
