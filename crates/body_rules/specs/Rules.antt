@@ -1,11 +1,11 @@
 -- The rules of bodies that are told from a place and from what is around it: where each is broken.
-use Rattle.std.specs.Prelude.{ℕ, List, ◌++◌, map, Option, Some, None, option_to_list, Contains}
+use Rattle.std.specs.Prelude.{ℕ, List, ◌++◌, map, Option, option_to_list, Contains}
 use Rattle.std.specs.List.{flat_map}
 use Rattle.dart_grammar.specs.declared.declarations.FileTree.{FileTree}
 use Rattle.dart_syntax.specs.declared.rules.Rule.{Rule}
 use Rattle.dart_syntax.specs.declared.rules.Rule.TheVariants.{B1, B2, B3, B4, B5, B6, B7, B8, B10, B12, B14}
 use Rattle.dart_syntax.specs.declared.rules.Refusal.{Refusal}
-use Rattle.dart_program.specs.First.{Broken, IsFirst, BreaksNone}
+use Rattle.dart_program.specs.First.{Broken}
 use Rattle.dart_sites.specs.declared.sites.Site.{Site}
 use Rattle.dart_sites.specs.declared.surroundings.Surroundings.{Surroundings}
 use Rattle.dart_sites.specs.Files.{sites_of_file}
@@ -41,8 +41,3 @@ faults_in n file = flat_map (λ y. faults_at n y.0 y.1) (sites_of_file file)
 
 unfoldable pub IsBroken : ℕ → FileTree → Broken
 IsBroken n file rule m at = Contains (faults_in n file) (refusal rule m at)
-
--- the first of these rules that a file breaks, and none exactly where it breaks none
-abbrev pub IsFirstIn : ℕ → FileTree → Option Refusal → Type 0
-IsFirstIn n file None = BreaksNone (IsBroken n file)
-IsFirstIn n file (Some x) = IsFirst (IsBroken n file) x

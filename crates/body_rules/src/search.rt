@@ -1,6 +1,7 @@
 //! The first broken rule of a file.
 ghost use Rattle.std.specs.Prelude.{◌≡◌, IfOk};
-ghost use Rattle.body_rules.specs.Rules.{IsFirstIn};
+ghost use Rattle.dart_program.specs.First.{IsFirstOrNone};
+ghost use Rattle.body_rules.specs.Rules.{IsBroken};
 ghost use Rattle.body_rules.specs.Search.{searched};
 
 use crate::faults::with_faults;
@@ -37,7 +38,7 @@ pub fn first_in_file(
     number: u32,
     tree: &FileTree,
 ) -> Result<Option<Refusal>, AllocError>
-    ensures { IfOk result (IsFirstIn number tree.now) }
+    ensures { IfOk result (IsFirstOrNone (IsBroken number tree.now)) }
 {
     let search = Search {
         number,

@@ -7,7 +7,7 @@ use Rattle.dart_grammar.specs.declared.declarations.Import.{Import}
 use Rattle.dart_grammar.specs.Trees.{span}
 use Rattle.dart_program.specs.declared.files.SourceFile.{SourceFile}
 use Rattle.dart_program.specs.Paths.{is_core, named_from, entry_name}
-use Rattle.dart_program.specs.Loading.{Asked, asked, link, content, Breaks, absent, many, full, scan}
+use Rattle.dart_program.specs.Loading.{Asked, asked, link, content, Breaks, absent, many, full, text}
 
 -- ---- names
 
@@ -93,7 +93,7 @@ asked_twice = refl
 
 never : (held : Held) (x : Asked) → content held x ≡ None → (file at : ℕ) → Breaks held 257 0 x N1 file at → ⊥
 never held x none file at (many is more) = let e : None ≡ Some _ = sym none ∙ is in cc
-never held x none file at (scan is few small room broken) = omega arith
+never held x none file at (text is few small room broken) = omega arith
 
 -- one file too many: where it isn't held, that is told first
 absent_and_many : (held : Held) (x : Asked) → content held x ≡ None → Breaks held 257 0 x U1 x.file x.at × (Breaks held 257 0 x N1 x.file x.at → ⊥)

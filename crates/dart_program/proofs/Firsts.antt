@@ -4,8 +4,8 @@ use Rattle.std.specs.Prelude.{◌==◌, not, ◌&&◌, ◌||◌, nat_lt}
 use Rattle.std.specs.List.{Contains}
 use Rattle.std.proofs.lemmas.Bool.{ltb-true, ltb-false, eqb-true, eqb-false}
 use Rattle.dart_syntax.specs.declared.rules.Refusal.{Refusal}
-use Rattle.dart_program.specs.First.{Broken, IsFirst, BreaksNone, ComesFirst, by, phase_of, number_of}
-use Rattle.dart_program.specs.Sooner.{is_below_or, comes_first, first_with}
+use Rattle.dart_program.specs.First.{Broken, IsFirst, BreaksNone, IsFirstOrNone, EitherOf, ComesFirst, by, phase_of, number_of}
+use Rattle.dart_program.specs.Sooner.{is_below_or, comes_first, first_with, first_of}
 
 -- ---- one number after another
 
@@ -152,3 +152,33 @@ none_of_broken broken xs are e = by_case (first_with None xs) e (first_is None x
     empty : (y : Refusal) → Contains [] y → ⊥
     empty y c = omega (arith, c.1)
   by_case (Some r) e h = absurd (not_none r (sym e))
+
+-- ---- for relations
+
+-- two that hold of the same
+pub first_of_same : (one other : Broken) (x : Option Refusal) → ((y : Refusal) → one y.rule y.file y.at → other y.rule y.file y.at) → ((y : Refusal) → other y.rule y.file y.at → one y.rule y.file y.at)
+    → IsFirstOrNone one x → IsFirstOrNone other x
+first_of_same one other None f g h = record { none = λ y b. h.none y (g y b) }
+first_of_same one other (Some x) f g h = record { holds = f x h.holds; first = λ y b. h.first y (g y b) }
+
+module _ (one other : Broken) where
+  one_alone : (x : Refusal) → IsFirst one x → BreaksNone other → IsFirst (EitherOf one other) x
+  one_alone x h k = record { holds = inl h.holds; first = λ y b. elim b [ inl c ↦ h.first y c | inr c ↦ absurd (k.none y c) ] }
+
+  other_alone : (x : Refusal) → BreaksNone one → IsFirst other x → IsFirst (EitherOf one other) x
+  other_alone x h k = record { holds = inr k.holds; first = λ y b. elim b [ inl c ↦ absurd (h.none y c) | inr c ↦ k.first y c ] }
+
+  one_first : (x y : Refusal) → IsFirst one x → IsFirst other y → ComesFirst x y → IsFirst (EitherOf one other) x
+  one_first x y h k p = record { holds = inl h.holds; first = λ z b. elim b [ inl c ↦ h.first z c | inr c ↦ through x y z p (k.first z c) ] }
+
+  other_first : (x y : Refusal) → IsFirst one x → IsFirst other y → ComesFirst y x → IsFirst (EitherOf one other) y
+  other_first x y h k p = record { holds = inr k.holds; first = λ z b. elim b [ inl c ↦ through y x z p (h.first z c) | inr c ↦ k.first z c ] }
+
+  pub first_of_either : (x y : Option Refusal) → IsFirstOrNone one x → IsFirstOrNone other y → IsFirstOrNone (EitherOf one other) (first_of x y)
+  first_of_either None None h k = record { none = λ y b. elim b [ inl c ↦ h.none y c | inr c ↦ k.none y c ] }
+  first_of_either (Some x) None h k = one_alone x h k
+  first_of_either None (Some y) h k = other_alone y h k
+  first_of_either (Some x) (Some y) h k = by (comes_first x y) refl where
+    by : (t : Bool) → comes_first x y ≡ t → IsFirstOrNone (EitherOf one other) (cond t (Some x) (Some y))
+    by true e = one_first x y h k (comes x y e)
+    by false e = other_first x y h k (comes_not x y e)

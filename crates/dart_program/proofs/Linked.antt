@@ -144,10 +144,14 @@ files_linked xs k (f ∷ fs) h l = (
   files_linked xs (suc k) fs (λ x e. h x (has_back x (flat_map (asked_by k f.name) f.tree.imports) (asked_from (suc k) fs) e)) l.1,
 )
 
-prelude_linked : (n : ℕ) (f : SourceFile) → IsPrelude f → IsLinked n f
+all_zero : (n : ℕ) → 0 < n → (is : List Import) → AllByRecursion (λ l. l < n) (map (λ (i : Import). 0) is)
+all_zero n h [] = tt
+all_zero n h (i ∷ is) = (h, all_zero n h is)
+
+prelude_linked : (n : ℕ) (f : SourceFile) → IsPrelude f → IsLinked (suc n) f
 prelude_linked n f p = record {
-  each = ap length p.links ∙ sym (ap length p.imports);
-  here = subst (λ (links : List ℕ). All (λ l. l < n) links) (sym p.links) (All-from_recursion (λ l. l < n) [] tt);
+  each = ap length p.links ∙ length-map f.tree.imports (λ i. 0);
+  here = subst (λ (links : List ℕ). All (λ l. l < suc n) links) (sym p.links) (All-from_recursion (λ l. l < suc n) (map (λ (i : Import). 0) f.tree.imports) (all_zero (suc n) (omega arith) f.tree.imports));
 }
 
 asked_in : (entry : List ℕ) (fs : List SourceFile) (x : List ℕ) → has x (asked_from 1 fs) ≡ true → has x (asked entry fs) ≡ true
@@ -165,7 +169,7 @@ all_linked entry p fs first whole linked =
     let rest : AllByRecursion (IsLinked (suc (length (asked entry fs)))) fs = files_linked (asked entry fs) 1 fs (asked_in entry fs) linked in
     record {
       two = omega arith;
-      linked = All-from_recursion (IsLinked (suc (length fs))) (p ∷ fs) (prelude_linked (suc (length fs)) p first, subst (λ k. AllByRecursion (IsLinked (suc k)) fs) whole rest);
+      linked = All-from_recursion (IsLinked (suc (length fs))) (p ∷ fs) (prelude_linked (length fs) p first, subst (λ k. AllByRecursion (IsLinked (suc k)) fs) whole rest);
     }
 
 pub loaded_are_programs : LoadedArePrograms

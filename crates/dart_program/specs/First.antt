@@ -1,5 +1,5 @@
 -- The first broken rule of a program: one search over all rules and places.
-use Rattle.std.specs.Prelude.{◌≡◌, ◌<◌, ◌≤◌, ◌⊎◌, ℕ, List}
+use Rattle.std.specs.Prelude.{◌≡◌, ◌<◌, ◌≤◌, ◌⊎◌, ℕ, List, Option, Some, None}
 use Rattle.outside.specs.Outside.{Held}
 use Rattle.dart_syntax.specs.declared.rules.Rule.{Rule}
 use Rattle.dart_syntax.specs.declared.rules.Rule.TheVariants as r
@@ -102,6 +102,15 @@ pub record IsFirst (broken : Broken) (x : Refusal) : Type 0 where
 
 pub record BreaksNone (broken : Broken) : Type 0 where
   pub none : (y : Refusal) → broken y.rule y.file y.at → ⊥
+
+-- the first of what is broken, and none exactly where nothing is
+abbrev pub IsFirstOrNone : Broken → Option Refusal → Type 0
+IsFirstOrNone broken None = BreaksNone broken
+IsFirstOrNone broken (Some x) = IsFirst broken x
+
+-- what is broken of one or of another
+abbrev pub EitherOf : Broken → Broken → Broken
+EitherOf one other rule file at = one rule file at ⊎ other rule file at
 
 -- what breaks rules in a loaded program: one relation for each phase behind the files
 pub record Phases : Type 1 where

@@ -102,6 +102,12 @@ pub data Loads (held : Held) (entry : List ℕ) : List SourceFile → ℕ → Ty
       → slice_get (asked entry files) (length files) ≡ Some x → IsFine held (suc (length files)) size x bytes file
       → Loads held entry (files ++ file ∷ []) (size + length bytes)
 
+-- These bytes spell no file: the first rule that they break, and the place. Of several rules it is the first in this order.
+pub data BreaksText (native : Bool) (bytes : List ℕ) : Rule → ℕ → Type 0 where
+  scan : {rule : Rule} {at : ℕ} → IsFirstBroken bytes at rule → BreaksText native bytes rule at
+  deep : {tokens : List Token} {at : ℕ} → IsTokens bytes tokens → first_overload tokens ≡ Some at → BreaksText native bytes G2 at
+  underived : {tokens : List Token} → IsTokens bytes tokens → first_overload tokens ≡ None → ((tree : FileTree) → IsFile native tokens tree → ⊥) → BreaksText native bytes G1 0
+
 -- What is asked for as file number n breaks this rule, in the file of this number at this place. Of several rules it is
 -- the first in this order.
 pub data Breaks (held : Held) (n before : ℕ) (x : Asked) : Rule → ℕ → ℕ → Type 0 where
@@ -109,21 +115,15 @@ pub data Breaks (held : Held) (n before : ℕ) (x : Asked) : Rule → ℕ → �
   many : {bytes : List ℕ} → content held x ≡ Some bytes → most_files < n → Breaks held n before x N1 x.file x.at
   long : {bytes : List ℕ} → content held x ≡ Some bytes → n ≤ most_files → most_bytes < length bytes → Breaks held n before x N2 n 0
   full : {bytes : List ℕ} → content held x ≡ Some bytes → n ≤ most_files → length bytes ≤ most_bytes → most_in_all < before + length bytes → Breaks held n before x N3 n 0
-  scan : {bytes : List ℕ} {at : ℕ} {rule : Rule} → content held x ≡ Some bytes → n ≤ most_files → length bytes ≤ most_bytes → before + length bytes ≤ most_in_all
-      → IsFirstBroken bytes at rule → Breaks held n before x rule n at
-  deep : {bytes : List ℕ} {ts : List Token} {at : ℕ} → content held x ≡ Some bytes → n ≤ most_files → length bytes ≤ most_bytes → before + length bytes ≤ most_in_all
-      → IsTokens bytes ts → first_overload ts ≡ Some at → Breaks held n before x G2 n at
-  underived : {bytes : List ℕ} {ts : List Token} → content held x ≡ Some bytes → n ≤ most_files → length bytes ≤ most_bytes → before + length bytes ≤ most_in_all
-      → IsTokens bytes ts → first_overload ts ≡ None → ((tree : FileTree) → IsFile false ts tree → ⊥) → Breaks held n before x G1 n 0
+  text : {bytes : List ℕ} {rule : Rule} {at : ℕ} → content held x ≡ Some bytes → n ≤ most_files → length bytes ≤ most_bytes → before + length bytes ≤ most_in_all
+      → BreaksText false bytes rule at → Breaks held n before x rule n at
 
--- Behind files that break no rule the next one does.
-pub record IsRefused (held : Held) (entry : List ℕ) (r : Refusal) : Type 0 where
-  pub files : List SourceFile
-  pub size : ℕ
-  pub loads : Loads held entry files size
-  pub x : Asked
-  pub next : slice_get (asked entry files) (length files) ≡ Some x
-  pub breaks : Breaks held (suc (length files)) size x r.rule r.file r.at
+-- The first rule that is broken while files are loaded. File 0 is looked at like any other, before all of them; its text
+-- is always the same, and breaks none.
+pub data IsRefused (held : Held) (entry : List ℕ) (r : Refusal) : Type 0 where
+  in_prelude : r.file ≡ 0 → BreaksText true prelude_text r.rule r.at → IsRefused held entry r
+  in_files : {prelude : FileTree} {files : List SourceFile} {size : ℕ} {x : Asked} → IsTreeOf true prelude_text prelude → Loads held entry files size
+      → slice_get (asked entry files) (length files) ≡ Some x → Breaks held (suc (length files)) size x r.rule r.file r.at → IsRefused held entry r
 
 -- ---- whole programs
 
@@ -144,12 +144,11 @@ abbrev pub AreLinked : List Asked → List SourceFile → Type 0
 AreLinked xs [] = Unit {0}
 AreLinked xs (file ∷ files) = (file.links ≡ map (link xs file.name) file.tree.imports) × AreLinked xs files
 
--- file 0, whose text has no import
+-- File 0. An import in it would mean itself; its text has none.
 pub record IsPrelude (file : SourceFile) : Type 0 where
   pub name : file.name ≡ prelude_name
   pub tree : IsTreeOf true prelude_text file.tree
-  pub imports : file.tree.imports ≡ []
-  pub links : file.links ≡ []
+  pub links : file.links ≡ map (λ _. 0) file.tree.imports
 
 -- the program that is loaded from what is held, beginning with the entry: no file of it breaks a rule, and all that is
 -- asked for is there

@@ -15,6 +15,10 @@ abbrev pub sooner : Option Refusal → Refusal → Option Refusal
 sooner None x = Some x
 sooner (Some y) x = if comes_first y x then Some y else Some x
 
+abbrev pub first_of : Option Refusal → Option Refusal → Option Refusal
+first_of one None = one
+first_of one (Some x) = sooner one x
+
 -- the first one of these and of one that was found before
 abbrev pub first_with : Option Refusal → List Refusal → Option Refusal
 first_with found [] = found

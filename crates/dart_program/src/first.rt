@@ -91,3 +91,13 @@ pub fn sooner(found: Option<Refusal>, refusal: Refusal) -> Option<Refusal>
         _ => Some(refusal),
     }
 }
+
+/// The first of two that may be there.
+pub fn first_of(one: Option<Refusal>, other: Option<Refusal>) -> Option<Refusal>
+    ensures { result ≡ spec.first_of one other }
+{
+    match other {
+        Some(refusal) => sooner(one, refusal),
+        None => one,
+    }
+}

@@ -69,7 +69,8 @@ impl Library {
 }
 
 impl Scopes {
-    fn library(&self, number: u32) -> Option<&Library>
+    /// The library of a file.
+    pub fn library(&self, number: u32) -> Option<&Library>
         ensures { option_copied result ≡ slice_get self.now.libraries number }
     {
         self.libraries.get(number as usize)
@@ -106,8 +107,9 @@ pub fn is_behind(prefix: Option<u32>, of_prelude: bool, import: &Imported) -> bo
 }
 
 impl Scopes {
-    /// What the first of these imports gives that gives anything.
-    fn first_given(
+    /// What the first of these imports gives that gives anything: of those with this prefix, or with none, and of the
+    /// prelude, or of other libraries.
+    pub fn first_given(
         &self,
         of_prelude: bool,
         side: Side,
@@ -128,9 +130,9 @@ impl Scopes {
         None
     }
 
-    /// What the prelude gives with no import.
+    /// What the prelude gives with no import. Nothing where there is a prefix.
     #[tactic(auto, unfolding(crate::specs::Lookups::given))]
-    fn given_anyway(&self, side: Side, name: &[u16], prefix: Option<u32>) -> Option<Named>
+    pub fn given_anyway(&self, side: Side, name: &[u16], prefix: Option<u32>) -> Option<Named>
         ensures { result ≡ spec.first (spec.given_anyway self.now side name.now prefix) }
     {
         match prefix {
@@ -140,9 +142,10 @@ impl Scopes {
         }
     }
 
-    /// What imports give under a name.
+    /// What the imports of a library give under a name: those with this prefix, or with none. The prelude gives what no other
+    /// library does.
     #[tactic(auto, unfolding(crate::specs::Lookups::candidates))]
-    fn first_candidate(
+    pub fn first_candidate(
         &self,
         side: Side,
         name: &[u16],
