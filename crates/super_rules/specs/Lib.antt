@@ -1,0 +1,4 @@
+pub mod Calls
+pub mod Takers
+pub mod Rules
+pub mod Tables
