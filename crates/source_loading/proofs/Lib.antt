@@ -1,0 +1,16 @@
+pub mod Once
+pub mod Names
+pub mod Held
+pub mod Askers
+pub mod Inserted
+pub mod Numbering
+pub mod Spelled
+pub mod Told
+pub mod Within
+pub mod Naming
+pub mod Steps
+pub mod Loop
+pub mod Whole
+pub mod HandedOn
+pub mod FileZero
+pub mod Nexts
