@@ -6,42 +6,61 @@
 //!
 //! - `rules`: each line is the entry `a.dart` of a program with the other files. Asked is for the first rule of libraries that
 //!   it breaks; the answer has the file, with `^` at the place. [`refusals`] finds it.
-//! - `classes`: the same of the first rule of classes.
+//! - `classes`, `bodies`: the same, and where no rule of libraries is broken, of the first rule of classes; and where none of
+//!   these is, of the first rule of bodies.
+//! - `members`: each line is such an entry. Printed are the members of its program, as [`members`] shows them.
+//! - `look-ups`: the first line is the entry. Each line behind it asks what is found in classes, as [`look_ups`] answers it.
 //! - `names`: the first line is the entry. Each line behind it is a look-up, which [`names`] answers.
 //! - `sites`: each line is a file. Asked is what stands in it, as [`sites`] notes it.
 //!
 //! [`row_files`] makes programs of rows.
 #![tactic(auto)]
 
+mod look_ups;
+mod members;
 mod names;
 mod refusals;
 mod row_files;
 mod sites;
 
 use anyhow::{Context, Result, bail};
+use refusals::{Phase, refused};
 use row_files::{is_other, resolved, row_files};
 use std::alloc::Global;
 use std::io;
 
 // The entries of programs, and the rules that these break.
-fn answer_rules(rt: &impl Print, alloc: Global, body: &str) -> Result<()> {
+fn answer_rules(rt: &impl Print, alloc: Global, phase: Phase, body: &str) -> Result<()> {
     for line in body.split('\n') {
         rt.println(line)?;
         if !is_other(line) {
             let files = row_files(alloc, line, body)?;
-            rt.println(format_args!("    {}", refusals::refused(alloc, &files)?))?;
+            rt.println(format_args!("    {}", refused(alloc, phase, &files)?))?;
         }
     }
     Ok(())
 }
 
-// The same of rules of classes.
-fn answer_classes(rt: &impl Print, alloc: Global, body: &str) -> Result<()> {
+// The entries of programs, and their members.
+fn answer_members(rt: &impl Print, alloc: Global, body: &str) -> Result<()> {
     for line in body.split('\n') {
         rt.println(line)?;
         if !is_other(line) {
-            let files = row_files(alloc, line, body)?;
-            rt.println(format_args!("    {}", refusals::refused_of_classes(alloc, &files)?))?;
+            members::print_members(rt, alloc, &row_files(alloc, line, body)?)?;
+        }
+    }
+    Ok(())
+}
+
+// The entry of a program, and what is found in its classes.
+fn answer_look_ups(rt: &impl Print, alloc: Global, body: &str) -> Result<()> {
+    let entry = body.split('\n').find(|line| !is_other(line));
+    let entry = entry.context("no entry")?;
+    let resolved = look_ups::built(alloc, &row_files(alloc, entry, body)?)?;
+    for line in body.split('\n') {
+        rt.println(line)?;
+        if !is_other(line) && line != entry {
+            rt.println(format_args!("    {}", look_ups::answer(alloc, &resolved, line)?))?;
         }
     }
     Ok(())
@@ -75,8 +94,11 @@ fn answer_section(rt: &impl Print, alloc: Global, section: &str) -> Result<()> {
     let (heading, body) = section.split_once('\n').context("a heading has no rows")?;
     rt.println(format_args!("--- {heading}"))?;
     match heading.split_once(": ").context("a section has no name")?.0 {
-        "rules" => answer_rules(rt, alloc, body),
-        "classes" => answer_classes(rt, alloc, body),
+        "rules" => answer_rules(rt, alloc, Phase::Libraries, body),
+        "classes" => answer_rules(rt, alloc, Phase::Classes, body),
+        "bodies" => answer_rules(rt, alloc, Phase::Bodies, body),
+        "members" => answer_members(rt, alloc, body),
+        "look-ups" => answer_look_ups(rt, alloc, body),
         "names" => answer_names(rt, alloc, body),
         "sites" => answer_sites(rt, alloc, body),
         question => bail!("no question {question}"),

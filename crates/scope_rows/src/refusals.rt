@@ -1,16 +1,14 @@
 //! The rules that programs break.
 
-use crate::row_files::resolved;
 use anyhow::{Context, Result};
-use class_heads::broken::first_broken;
+use class_hierarchy::building::{ClassError, build};
 use code_units::{Files, NamedFile};
-use dart_program::Refusal;
+use dart_program::{Program, Refusal};
 use library_scopes::{ScopeError, resolve};
+use program_rules::bodies::first_broken;
 use source_programs::program;
 use std::alloc::Global;
 use std::str::from_utf8;
-
-const NONE_BROKEN: &str = "no rule is broken";
 
 // The files are numbered from 1 on, behind the prelude.
 fn file_of<'f>(files: &'f Files, number: u32) -> Option<&'f NamedFile> {
@@ -30,21 +28,39 @@ fn marked(alloc: Global, files: &Files, refusal: Refusal) -> Result<String> {
     Ok(format!(in alloc; "{rule:?} {name}: {before}^{behind}")?)
 }
 
-/// The first rule of libraries that the program of these files breaks, and where.
-pub fn refused(alloc: Global, files: &Files) -> Result<String> {
-    match resolved(alloc, files)? {
-        Ok(_) => Ok(String::from_str(alloc, NONE_BROKEN)?),
-        Err(ScopeError::Broken(refusal)) => marked(alloc, files, refusal),
-        Err(error) => Err(error.into()),
-    }
+/// Which rules are looked at. Those of libraries come first, and then those of classes.
+#[derive(Clone, Copy, PartialEq, Eq)]
+pub enum Phase {
+    Libraries,
+    Classes,
+    Bodies,
 }
 
-/// The first rule of classes that it breaks, and where; it breaks none of libraries.
-pub fn refused_of_classes(alloc: Global, files: &Files) -> Result<String> {
+fn first_refusal(alloc: Global, phase: Phase, program: Program) -> Result<Option<Refusal>> {
+    let scopes = match resolve(alloc, &program) {
+        Ok(scopes) => scopes,
+        Err(ScopeError::Broken(refusal)) => return Ok(Some(refusal)),
+        Err(error) => return Err(error.into()),
+    };
+    if phase == Phase::Libraries {
+        return Ok(None);
+    }
+    let resolved = match build(alloc, program, scopes) {
+        Ok(resolved) => resolved,
+        Err(ClassError::Broken(refusal)) => return Ok(Some(refusal)),
+        Err(error) => return Err(error.into()),
+    };
+    if phase == Phase::Classes {
+        return Ok(None);
+    }
+    Ok(first_broken(alloc, &resolved)?)
+}
+
+/// The first rule of these that the program of the files breaks, and where.
+pub fn refused(alloc: Global, phase: Phase, files: &Files) -> Result<String> {
     let program = program(alloc, files)?;
-    let scopes = resolve(alloc, &program)?;
-    match first_broken(alloc, program.files().as_slice(), &scopes)? {
+    match first_refusal(alloc, phase, program)? {
         Some(refusal) => marked(alloc, files, refusal),
-        None => Ok(String::from_str(alloc, NONE_BROKEN)?),
+        None => Ok(String::from_str(alloc, "no rule is broken")?),
     }
 }
