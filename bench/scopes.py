@@ -1,18 +1,21 @@
 #!/usr/bin/env python3
-"""Finds what names mean in generated programs, and prints what that took.
+"""Finds what names mean and which members classes have in generated programs, and prints what that took.
 
     bench/scopes.py [PROGRAM] [-- NAME ..]
 
 PROGRAM is a proved build of crates/scope_bench; without it that crate is proved and built first. NAME picks rows. There
-are two tables.
+are three tables.
 
 - Programs of up to 10,000 declarations: seconds of `resolve` for the largest, which looks for broken rules too, and how
   many times as long each doubling takes.
 - Look-ups of each of up to 10,000 names, ten times over: seconds for the largest, nanoseconds for one of its 100,000
   look-ups, and how many times as long each doubling takes.
+- Programs of up to 4,000 classes with 10,000 selectors: seconds to make the hierarchy of the largest, which looks for
+  broken rules of classes too, the limit, and how many times as long each doubling takes; and the same for the rules of
+  bodies.
 
-Seconds are the processor's, the least of five runs, less what the run takes without: to read the files, and for look-ups
-also to resolve them. Linear is 2.0; a dash stands where under two milliseconds tell nothing.
+Seconds are the processor's, the least of five runs, less what the run takes without: to read the files, for look-ups and
+hierarchies also to resolve them, and for rules of bodies also to make the hierarchy. Linear is 2.0; a dash stands where under two milliseconds tell nothing.
 """
 import os
 import subprocess
@@ -84,6 +87,40 @@ LOOKED = {
     "behind a prefix": ("behind", lambda n: ["import 'b.dart' as p;\n" + MAIN, declared(n)]),
 }
 
+CLASSES = [500, 1_000, 2_000, 4_000]
+LIMIT = 2.0
+
+
+def members(names):
+    """A method, a field and a setter of another name, over and over."""
+    kinds = ["#(a) => a; ", "var #; ", "set #(v) {} "]
+    return "".join(kinds[i % len(kinds)].replace("#", name) for i, name in enumerate(names))
+
+
+def hierarchy(count, above):
+    """So many classes, each behind the one that `above` gives, with two and a half members on the mean, each of its own name."""
+    text = [MAIN]
+    for i in range(count):
+        names = [f"m{i}", f"n{i}"] + ([f"o{i}"] if i % 2 else [])
+        other = above(i)
+        head = f" extends c{other}" if other is not None else ""
+        text.append(f"class c{i}{head} {{ {members(names)}f() {{ m{i}; return this.n{i}; }} }}\n")
+    return ["".join(text)]
+
+
+# The texts of the files.
+BUILT = {
+    "flat": lambda n: hierarchy(n, lambda i: None),
+    "one above all": lambda n: hierarchy(n, lambda i: 0 if i else None),
+    "a chain": lambda n: hierarchy(n, lambda i: i - 1 if i else None),
+    "a tree": lambda n: hierarchy(n, lambda i: (i - 1) // 2 if i else None),
+    "interfaces": lambda n: [t.replace(" extends", " implements") for t in hierarchy(n, lambda i: (i - 1) // 2 if i else None)],
+    "mixins": lambda n: [
+        MAIN + of_each("class m# { p#(a) => a; q#() { p#(1); } }\n", n // 4)
+        + of_each("class s# { r#() {} }\n", n // 4) + of_each("class c# extends s# with m# { t#() {} }\n", n // 4)
+    ],
+}
+
 
 def run(program, words):
     """The answer and the processor's seconds of one run."""
@@ -140,6 +177,19 @@ def looking(program, folder, command, of):
     return taken, said
 
 
+def building(program, folder, of):
+    """Seconds to make hierarchies of each number of classes and to look for broken rules of bodies, and the answer."""
+    taken, looked = [], []
+    for count in CLASSES:
+        paths = written(folder, of(count))
+        _, resolved = measured(program, "resolve", 0, paths)
+        said, made = measured(program, "build", 0, paths)
+        _, both = measured(program, "bodies", 0, paths)
+        taken.append(max(made - resolved, 0))
+        looked.append(max(both - made, 0))
+    return taken, looked, said
+
+
 def built():
     """The program, proved and built."""
     with tempfile.TemporaryDirectory() as folder:
@@ -165,6 +215,13 @@ def main():
             taken, said = looking(program, folder, *LOOKED[name])
             each = taken[-1] / (TURNS * COUNTS[-1]) * 1e9
             print(f"{name:<20}{taken[-1]:>9.3f}{each:>10.0f}{ratios(taken)}  {said}", flush=True)
+        print(f"\n{'hierarchies':<20}{'seconds':>9}{'limit':>7}{'times':>15}{'bodies, s':>11}{'times':>15}  answer for the largest")
+        for name in [name for name in BUILT if names is None or name in names]:
+            taken, looked, said = building(program, folder, BUILT[name])
+            print(
+                f"{name:<20}{taken[-1]:>9.3f}{LIMIT:>7.1f}{ratios(taken)}{looked[-1]:>11.3f}{ratios(looked)}  {said}",
+                flush=True,
+            )
 
 
 if __name__ == "__main__":

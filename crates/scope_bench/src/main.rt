@@ -2,16 +2,21 @@
 //!
 //! `read` says how many declarations the last file has. `resolve` also finds what names mean in the libraries of the files,
 //! and says how many these are. `look` then looks up so many names in the entry, and `behind` behind the first prefix: those
-//! that the last file declares, over and over. Both say how many were found. It ends with status 1 and the reason where the
-//! words are others, a file can't be read, the files are no program, or they break a rule of libraries.
+//! that the last file declares, over and over. Both say how many were found. `build` also makes the hierarchy of the program,
+//! and says how many classes and selectors that has; `bodies` then looks for the first rule of bodies that is broken, and says
+//! whether there is one. It ends with status 1 and the reason where the words are others, a file can't be read, the files are
+//! no program, or they break a rule of libraries, or for the last two commands of classes.
 #![tactic(auto)]
 
 use anyhow::{Context, Result, bail};
+use class_hierarchy::{Hierarchy, Resolved, build};
 use code_units::{Bytes, Files, NamedFile, Text};
 use dart_grammar::declarations::Declaration;
 use dart_program::Program;
 use library_scopes::{Scopes, resolve};
+use program_rules::bodies::first_broken;
 use source_programs::program;
+use std::alloc::Global;
 use std::{env, fs};
 
 // The name that a declaration gives, where it gives one.
@@ -63,6 +68,75 @@ fn found(scopes: &Scopes, is_behind: bool, declarations: &[Declaration], count: 
     found
 }
 
+// The program of the files, with its classes.
+fn built(alloc: Global, files: &Files) -> Result<Resolved> {
+    let program = program(alloc, files)?;
+    let scopes = resolve(alloc, &program)?;
+    Ok(build(alloc, program, scopes)?)
+}
+
+// How many libraries there are, or how many look-ups find something.
+fn resolved(
+    alloc: Global,
+    command: &str,
+    count: u64,
+    scopes: &Scopes,
+    declarations: &[Declaration],
+) -> Result<String> {
+    match command {
+        "resolve" => Ok(format!(in alloc; "{} libraries", scopes.libraries.len())?),
+        "look" => Ok(format!(in alloc; "{} found", found(scopes, false, declarations, count))?),
+        "behind" => Ok(format!(in alloc; "{} found", found(scopes, true, declarations, count))?),
+        _ => bail!("the commands are `read`, `resolve`, `look`, `behind`, `build` and `bodies`"),
+    }
+}
+
+// The same, or how many declarations the last file has.
+fn counted(alloc: Global, command: &str, count: u64, files: &Files) -> Result<String> {
+    let program = program(alloc, files)?;
+    let declarations = last_declarations(&program);
+    if command == "read" {
+        return Ok(format!(in alloc; "{} declarations", declarations.len())?);
+    }
+    let scopes = resolve(alloc, &program)?;
+    resolved(alloc, command, count, &scopes, declarations)
+}
+
+fn sizes(alloc: Global, hierarchy: &Hierarchy) -> Result<String> {
+    let classes = hierarchy.classes.len();
+    let selectors = hierarchy.selectors.len();
+    Ok(format!(in alloc; "{classes} classes, {selectors} selectors")?)
+}
+
+fn verdict(is_broken: bool) -> &'static str {
+    if is_broken {
+        "a rule is broken"
+    } else {
+        "no rule is broken"
+    }
+}
+
+// How many classes and selectors the hierarchy has.
+fn made(alloc: Global, files: &Files) -> Result<String> {
+    let resolved = built(alloc, files)?;
+    sizes(alloc, resolved.hierarchy())
+}
+
+// Whether a rule of bodies is broken.
+fn checked(alloc: Global, files: &Files) -> Result<String> {
+    let resolved = built(alloc, files)?;
+    let broken = first_broken(alloc, &resolved)?;
+    Ok(String::from_str(alloc, verdict(broken.is_some()))?)
+}
+
+fn answer(alloc: Global, command: &str, count: u64, files: &Files) -> Result<String> {
+    match command {
+        "build" => made(alloc, files),
+        "bodies" => checked(alloc, files),
+        _ => counted(alloc, command, count, files),
+    }
+}
+
 fn main(rt: HostRuntime) -> Result<()> {
     let mut words = env::args(&rt)?.skip(1);
     let command = words.next().context("no command is given")?;
@@ -75,23 +149,6 @@ fn main(rt: HostRuntime) -> Result<()> {
             bytes: Bytes::from_vec(fs::read(&rt, word.as_str())?),
         })?;
     }
-    let program = program(rt.alloc(), &files)?;
-    let declarations = last_declarations(&program);
-    match command.as_str() {
-        "read" => println!(rt; "{} declarations", declarations.len())?,
-        "resolve" => {
-            let scopes = resolve(rt.alloc(), &program)?;
-            println!(rt; "{} libraries", scopes.libraries.len())?;
-        }
-        "look" => {
-            let scopes = resolve(rt.alloc(), &program)?;
-            println!(rt; "{} found", found(&scopes, false, declarations, count))?;
-        }
-        "behind" => {
-            let scopes = resolve(rt.alloc(), &program)?;
-            println!(rt; "{} found", found(&scopes, true, declarations, count))?;
-        }
-        _ => bail!("the commands are `read`, `resolve`, `look` and `behind`"),
-    }
+    println!(rt; "{}", answer(rt.alloc(), command.as_str(), count, &files)?)?;
     Ok(())
 }
